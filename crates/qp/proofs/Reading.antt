@@ -1,0 +1,207 @@
+-- Lemmas on the text, the lines and the parts of quoted-printable input.
+use Rattle.std.proofs.Common.{◌≡◌, ℕ, ◌+◌, ◌-◌, ◌<◌, ◌≤◌, get_or, drop, Bool, true, false, cond, not, ◌||◌, eqb, nat_lt, Some, None, List, [], ◌∷◌, ◌++◌, length, take, refl, ap, sym, ◌∙◌, arith}
+use Rattle.std.specs.List.{suffix_len, slice_split, All, position, position_or_len}
+use Rattle.std.proofs.lemmas.List.{append_assoc, take-append-drop, length-take, get_or-take, drop_more, drop_all, take-append-le, take_all, length_push, append-nil, reverse-append}
+use Rattle.std.proofs.lemmas.List.Elements.{filter-append, All-filter, All-from_get_or}
+use Rattle.std.proofs.lemmas.List.Quantifiers.{position-Some}
+use Rattle.std.proofs.lemmas.Bool.{eqb-true, ltb-false}
+use Rattle.std.proofs.lemmas.List.Splits.{slice_split_none, slice_split_at, length-slice_split}
+use Rattle.std.proofs.lemmas.List.Sums.{fails_before_first}
+use Rattle.qp.specs.Text.{is_text_octet, is_line_padding, kept, trimmed, lines}
+use Rattle.qp.specs.Line.{Part, literal, escape, cut_escape, soft_break, parts, values, ends_soft, part_value, is_soft_break, escape_value, line_value}
+use Rattle.qp.specs.Robust.{joined, line_end, robust}
+
+pub kept_yes : (x : ℕ) (xs : List ℕ) → is_text_octet x ≡ true → kept (x ∷ xs) ≡ x ∷ kept xs
+unfolding kept
+kept_yes x xs h = rw h refl
+
+pub kept_no : (x : ℕ) (xs : List ℕ) → is_text_octet x ≡ false → kept (x ∷ xs) ≡ kept xs
+unfolding kept
+kept_no x xs h = rw h refl
+
+pub kept-append : (xs ys : List ℕ) → kept (xs ++ ys) ≡ kept xs ++ kept ys
+unfolding kept
+kept-append xs ys = filter-append is_text_octet xs ys
+
+pub kept_push_yes : (xs : List ℕ) (x : ℕ) → is_text_octet x ≡ true → kept (xs ++ x ∷ []) ≡ kept xs ++ x ∷ []
+unfolding kept
+kept_push_yes xs x h = kept-append xs (x ∷ []) ∙ ap (λ k. kept xs ++ k) (kept_yes x [] h)
+
+pub kept_push_no : (xs : List ℕ) (x : ℕ) → is_text_octet x ≡ false → kept (xs ++ x ∷ []) ≡ kept xs
+unfolding kept
+kept_push_no xs x h = kept-append xs (x ∷ []) ∙ ap (λ k. kept xs ++ k) (kept_no x [] h) ∙ append-nil (kept xs)
+
+suffix_push : (p : ℕ → Bool) (xs : List ℕ) (x : ℕ) → suffix_len p (xs ++ x ∷ []) ≡ cond (p x) (1 + suffix_len p xs) 0
+suffix_push p xs x = rw (reverse-append xs (x ∷ [])) refl
+
+pub trimmed_padding : (xs : List ℕ) (x : ℕ) → is_line_padding x ≡ true → trimmed (xs ++ x ∷ []) ≡ trimmed xs
+unfolding trimmed
+trimmed_padding xs x h =
+    let n : length (xs ++ x ∷ []) - suffix_len is_line_padding (xs ++ x ∷ []) ≡ length xs - suffix_len is_line_padding xs =
+    rw (suffix_push is_line_padding xs x, h) (omega (arith, length_push xs x)) in
+    rw n (take-append-le (length xs - suffix_len is_line_padding xs) xs (x ∷ []) (omega arith))
+
+pub trimmed_other : (xs : List ℕ) (x : ℕ) → is_line_padding x ≡ false → trimmed (xs ++ x ∷ []) ≡ xs ++ x ∷ []
+unfolding trimmed
+trimmed_other xs x h =
+    take_all (length (xs ++ x ∷ []) - suffix_len is_line_padding (xs ++ x ∷ [])) (xs ++ x ∷ [])
+    (rw (suffix_push is_line_padding xs x, h) (omega arith))
+
+pub kept_drop_yes : (xs : List ℕ) (i : ℕ) → i < length xs → is_text_octet (get_or xs i 0) ≡ true → kept (drop i xs) ≡ get_or xs i 0 ∷ kept (drop (i + 1) xs)
+kept_drop_yes xs i h t = rw (drop_more xs i 0) (kept_yes (get_or xs i 0) (drop (i + 1) xs) t)
+
+pub kept_drop_no : (xs : List ℕ) (i : ℕ) → i < length xs → is_text_octet (get_or xs i 0) ≡ false → kept (drop i xs) ≡ kept (drop (i + 1) xs)
+kept_drop_no xs i h t = rw (drop_more xs i 0) (kept_no (get_or xs i 0) (drop (i + 1) xs) t)
+
+pub kept_drop_all : (xs : List ℕ) (i : ℕ) → length xs ≤ i → kept (drop i xs) ≡ []
+unfolding kept
+kept_drop_all xs i h = rw (drop_all i xs h) refl
+
+pub trimmed_nil : trimmed (kept []) ≡ kept []
+unfolding trimmed kept
+trimmed_nil = refl
+
+pub trimmed_lost : (xs : List ℕ) (x : ℕ) → (not (is_text_octet x) || is_line_padding x) ≡ true → trimmed (kept (xs ++ x ∷ [])) ≡ trimmed (kept xs)
+trimmed_lost xs x h = by_text (is_text_octet x) refl
+  where
+    by_text : (b : Bool) → is_text_octet x ≡ b → trimmed (kept (xs ++ x ∷ [])) ≡ trimmed (kept xs)
+    by_text true e = rw (kept_push_yes xs x e) (trimmed_padding (kept xs) x (rw e at h))
+    by_text false e = rw (kept_push_no xs x e) refl
+
+pub trimmed_stays : (xs : List ℕ) (x : ℕ) → (not (is_text_octet x) || is_line_padding x) ≡ false → trimmed (kept (xs ++ x ∷ [])) ≡ kept (xs ++ x ∷ [])
+trimmed_stays xs x h = by_text (is_text_octet x) refl
+  where
+    by_text : (b : Bool) → is_text_octet x ≡ b → trimmed (kept (xs ++ x ∷ [])) ≡ kept (xs ++ x ∷ [])
+    by_text true e = rw (kept_push_yes xs x e) (trimmed_other (kept xs) x (rw e at h))
+    by_text false e = let wrong : true ≡ false = rw e at h in cc
+
+-- One part after another.
+pub parts_literal : (b : ℕ) (rest : List ℕ) → eqb b 61 ≡ false → parts (b ∷ rest) ≡ literal b ∷ parts rest
+unfolding parts
+parts_literal b [] h = rw h refl
+parts_literal b (u ∷ []) h = rw h refl
+parts_literal b (u ∷ v ∷ rest) h = rw h refl
+
+pub parts_escape : (b u v : ℕ) (rest : List ℕ) → eqb b 61 ≡ true → parts (b ∷ u ∷ v ∷ rest) ≡ escape u v ∷ parts rest
+unfolding parts
+parts_escape b u v rest h = rw h refl
+
+pub parts_cut_escape : (b u : ℕ) → eqb b 61 ≡ true → parts (b ∷ u ∷ []) ≡ cut_escape u ∷ []
+unfolding parts
+parts_cut_escape b u h = rw h refl
+
+pub parts_soft_break : (b : ℕ) → eqb b 61 ≡ true → parts (b ∷ []) ≡ soft_break ∷ []
+unfolding parts
+parts_soft_break b h = rw h refl
+
+pub values-cons : (p : Part) (ps : List Part) → values (p ∷ ps) ≡ part_value p ++ values ps
+unfolding values
+values-cons p ps = refl
+
+pub values-nil : values [] ≡ []
+unfolding values
+values-nil = refl
+
+pub ends_soft-cons : (p : Part) (ps : List Part) → ends_soft (p ∷ ps) ≡ is_soft_break p || ends_soft ps
+unfolding ends_soft
+ends_soft-cons p ps = refl
+
+pub parts_nil : parts [] ≡ []
+unfolding parts
+parts_nil = refl
+
+-- One turn of a reader that appends the value of each part: `out` is what it has, `text` what is left of the line.
+pub value_after_literal : (out total text rest : List ℕ) (b : ℕ) → eqb b 61 ≡ false → text ≡ b ∷ rest → out ++ values (parts text) ≡ total → (out ++ b ∷ []) ++ values (parts rest) ≡ total
+value_after_literal out total text rest b h t e =
+    append_assoc out (b ∷ []) (values (parts rest))
+    ∙ ap (λ w. out ++ w) (sym (ap values (ap parts t ∙ parts_literal b rest h) ∙ values-cons (literal b) (parts rest)))
+    ∙ e
+
+pub soft_after_literal : (text rest : List ℕ) (b : ℕ) → eqb b 61 ≡ false → text ≡ b ∷ rest → ends_soft (parts rest) ≡ ends_soft (parts text)
+soft_after_literal text rest b h t =
+    sym (ap ends_soft (ap parts t ∙ parts_literal b rest h) ∙ ends_soft-cons (literal b) (parts rest))
+
+pub parts_at_escape : (text second third rest : List ℕ) (b u v : ℕ) → eqb b 61 ≡ true → text ≡ b ∷ second → second ≡ u ∷ third → third ≡ v ∷ rest → parts text ≡ escape u v ∷ parts rest
+parts_at_escape text second third rest b u v h e f g = rw (e, f, g) (parts_escape b u v rest h)
+
+pub value_after_escape : (out total text rest : List ℕ) (u v : ℕ) → parts text ≡ escape u v ∷ parts rest → out ++ values (parts text) ≡ total → (out ++ escape_value u v) ++ values (parts rest) ≡ total
+value_after_escape out total text rest u v t e =
+    append_assoc out (escape_value u v) (values (parts rest))
+    ∙ ap (λ w. out ++ w) (sym (ap values t ∙ values-cons (escape u v) (parts rest)))
+    ∙ e
+
+pub soft_after_escape : (text rest : List ℕ) (u v : ℕ) → parts text ≡ escape u v ∷ parts rest → ends_soft (parts rest) ≡ ends_soft (parts text)
+soft_after_escape text rest u v t = sym (ap ends_soft t ∙ ends_soft-cons (escape u v) (parts rest))
+
+pub parts_at_cut : (text second third : List ℕ) (b u : ℕ) → eqb b 61 ≡ true → text ≡ b ∷ second → second ≡ u ∷ third → third ≡ [] → parts text ≡ cut_escape u ∷ []
+parts_at_cut text second third b u h e f g = rw (e, f, g) (parts_cut_escape b u h)
+
+pub parts_at_soft : (text second : List ℕ) (b : ℕ) → eqb b 61 ≡ true → text ≡ b ∷ second → second ≡ [] → parts text ≡ soft_break ∷ []
+parts_at_soft text second b h e f = rw (e, f) (parts_soft_break b h)
+
+pub values_cut : (u : ℕ) → values (cut_escape u ∷ []) ≡ 61 ∷ u ∷ []
+unfolding values
+values_cut u = refl
+
+pub values_soft : values (soft_break ∷ []) ≡ []
+unfolding values
+values_soft = refl
+
+pub ends_soft_cut : (u : ℕ) → ends_soft (cut_escape u ∷ []) ≡ false
+unfolding ends_soft
+ends_soft_cut u = refl
+
+pub ends_soft_soft : ends_soft (soft_break ∷ []) ≡ true
+unfolding ends_soft
+ends_soft_soft = refl
+
+pub ends_soft_nil : ends_soft [] ≡ false
+unfolding ends_soft
+ends_soft_nil = refl
+
+-- One line after another.
+joined_more : (line : List ℕ) (ps : List (List ℕ)) → 0 < length ps → joined (line ∷ ps) ≡ line_value line ++ line_end line ++ joined ps
+unfolding joined
+joined_more line [] h = absurd (omega arith)
+joined_more line (p ∷ ps) h = refl
+
+lines_some : (text : List ℕ) → 0 < length (lines text)
+unfolding lines
+lines_some text = omega (arith, length-slice_split (λ b. eqb b 10) text)
+
+kept_one_line : (text : List ℕ) → All (λ b. eqb b 10 ≡ false) text → All (λ b. eqb b 10 ≡ false) (kept text)
+unfolding kept
+kept_one_line text one = All-filter is_text_octet (λ b. eqb b 10 ≡ false) text one
+
+pub robust_one_line : (text : List ℕ) → All (λ b. eqb b 10 ≡ false) text → robust text ≡ line_value (kept text)
+unfolding robust joined lines
+robust_one_line text one = ap joined (slice_split_none (λ b. eqb b 10) (kept text) (kept_one_line text one))
+
+pub robust_line : (line rest : List ℕ) → All (λ b. eqb b 10 ≡ false) line → robust (line ++ 10 ∷ rest) ≡ line_value (kept line) ++ line_end (kept line) ++ robust rest
+unfolding robust lines
+robust_line line rest one =
+    ap (λ t. joined (slice_split (λ b. eqb b 10) t)) (kept-append line (10 ∷ rest) ∙ ap (λ t. kept line ++ t) (kept_yes 10 rest refl))
+    ∙ ap joined (slice_split_at (λ b. eqb b 10) (kept line) 10 (kept rest) (kept_one_line line one) refl)
+    ∙ joined_more (kept line) (lines (kept rest)) (lines_some (kept rest))
+
+passes_none : (p : ℕ → Bool) (xs : List ℕ) → position p xs ≡ None → All (λ b. p b ≡ false) xs
+passes_none p xs h = All-from_get_or (λ b. p b ≡ false) xs 0 (λ i within. fails_before_first p xs i 0 (by_test (nat_lt (position_or_len p xs) (length xs)) refl i within))
+  where
+    by_test : (b : Bool) → nat_lt (position_or_len p xs) (length xs) ≡ b → (i : ℕ) → i < length xs → i < position_or_len p xs
+    by_test true e i within = let wrong : Some (position_or_len p xs) ≡ None = rw e at h in cc
+    by_test false e i within = let past : length xs ≤ position_or_len p xs = ltb-false (position_or_len p xs) (length xs) e in omega arith
+
+pub robust_no_line_feed : (text : List ℕ) → position (λ b. eqb b 10) text ≡ None → robust text ≡ line_value (kept text)
+robust_no_line_feed text h = robust_one_line text (passes_none (λ b. eqb b 10) text h)
+
+pub robust_line_feed : (text : List ℕ) (end : ℕ) → position (λ b. eqb b 10) text ≡ Some end → robust text ≡ line_value (kept (take end text)) ++ line_end (kept (take end text)) ++ robust (drop (end + 1) text)
+robust_line_feed text end h =
+    let at = position-Some (λ b. eqb b 10) text end 0 h in
+    let before : All (λ b. eqb b 10 ≡ false) (take end text) =
+    All-from_get_or (λ b. eqb b 10 ≡ false) (take end text) 0 (λ i within.
+    let below : i < end = omega (arith, length-take end text) in
+    rw (get_or-take end text i 0 below) (at.2 i below)) in
+    let feed : get_or text end 0 ≡ 10 = eqb-true (get_or text end 0) 10 at.1 in
+    let whole : text ≡ take end text ++ 10 ∷ drop (end + 1) text =
+    sym (take-append-drop end text) ∙ ap (λ t. take end text ++ t) (drop_more text end 0 at.0 ∙ ap (λ b. b ∷ drop (end + 1) text) feed) in
+    ap robust whole ∙ robust_line (take end text) (drop (end + 1) text) before
