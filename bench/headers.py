@@ -1,10 +1,10 @@
 """Times a program on large headers beside `cat`, and prints ratios.
 
-Each time is the least of several runs, with the start of the process in it.
+Each time is the least of many runs, with the start of the process in it.
+Peak memory is read by `/usr/bin/time`, where that is there.
 """
 
 import os
-import resource
 import shutil
 import subprocess
 import sys
@@ -12,7 +12,8 @@ import tempfile
 import time
 
 LIMIT = 1 << 20
-RUNS = 15
+RUNS = 40
+TIME = "/usr/bin/time"
 
 
 def repeated(piece, size):
@@ -33,27 +34,38 @@ def inputs(share):
     return {
         "clear text": repeated(b"Keith Moore <moore@cs.utk.edu>, ", size),
         "encoded words": words(12_000 // share),
-        "=?=?=?": repeated(b"=?", size),
+        "`=?=?=?`": repeated(b"=?", size),
         "unclosed words": repeated(b"=?utf-8?Q?abc", size),
         "spaces": repeated(b" ", size),
     }
 
 
-def run(command, path):
-    """The least time of `RUNS` runs, and the largest peak memory in KiB."""
+def least_time(command, path):
+    """The least time of `RUNS` runs, in seconds."""
     best = float("inf")
-    peak = 0
     for _ in range(RUNS):
         with open(path, "rb") as source:
             start = time.perf_counter()
-            child = subprocess.Popen(command, stdin=source, stdout=subprocess.DEVNULL)
-            _, status, usage = os.wait4(child.pid, 0)
+            status = subprocess.call(command, stdin=source, stdout=subprocess.DEVNULL)
             best = min(best, time.perf_counter() - start)
-        child.returncode = os.waitstatus_to_exitcode(status)
-        peak = max(peak, usage.ru_maxrss)
-        if child.returncode != 0:
-            sys.exit(f"{command}: status {child.returncode} on {path}")
-    return best, peak
+        if status != 0:
+            sys.exit(f"{command}: status {status} on {path}")
+    return best
+
+
+def peak_memory(command, path):
+    """The peak memory in bytes, or none where it can't be read."""
+    if not os.access(TIME, os.X_OK):
+        return None
+    with open(path, "rb") as source:
+        done = subprocess.run(
+            [TIME, "-f", "%M", *command],
+            stdin=source,
+            stdout=subprocess.DEVNULL,
+            stderr=subprocess.PIPE,
+            check=True,
+        )
+    return int(done.stderr) * 1024
 
 
 def main():
@@ -65,24 +77,24 @@ def main():
     with tempfile.TemporaryDirectory() as folder:
         path = os.path.join(folder, "input")
 
-        def measure(command, content):
+        def write(content):
             with open(path, "wb") as file:
                 file.write(content)
-            return run(command, path)
 
-        empty, empty_peak = measure(program, b"")
-        print(f"empty input: {empty * 1e3:.2f} ms, {empty_peak} KiB")
-        print("header | bytes | beside cat | beside a quarter, less the start | peak over input")
+        write(b"")
+        start = least_time(program, path)
         small = inputs(4)
+        print("header | bytes | beside `cat` and a start | beside a quarter, starts off | peak memory by input")
         for name, content in inputs(1).items():
-            whole, peak = measure(program, content)
-            quarter, _ = measure(program, small[name])
-            beside, _ = measure([cat], content)
-            growth = (whole - empty) / max(quarter - empty, 1e-9)
-            memory = (peak - empty_peak) * 1024 / len(content)
-            print(
-                f"{name} | {len(content)} | {whole / beside:.1f} | {growth:.1f} | {memory:.1f}"
-            )
+            write(small[name])
+            quarter = least_time(program, path)
+            write(content)
+            whole = least_time(program, path)
+            beside = least_time([cat], path) + start
+            growth = (whole - start) / max(quarter - start, 1e-6)
+            peak = peak_memory(program, path)
+            memory = "not read" if peak is None else f"{peak / len(content):.1f}"
+            print(f"{name} | {len(content)} | {whole / beside:.1f} | {growth:.1f} | {memory}")
 
 
 if __name__ == "__main__":

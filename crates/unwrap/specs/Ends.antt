@@ -1,0 +1,32 @@
+-- What a source has lost where a command ends.
+use Rattle.std.specs.Prelude.{◌≡◌, ℕ, ◌+◌, ◌≤◌, ◌⊎◌, Option, List, length}
+use Rattle.std.specs.Io.KnownBytes.{Consumes}
+use Rattle.enc_io.specs.Faults.{Rose}
+use Rattle.unwrap.specs.declared.finish.Status.{Status}
+use Rattle.unwrap.specs.declared.finish.Status.TheVariants.{Done, Usage, ReadFault, TooMuch, WriteFault, Memory, Unbuilt}
+
+-- a source gave exactly n bytes, which it lost
+abbrev pub Loses : Option (List ℕ) → Option (List ℕ) → ℕ → Type 0
+Loses before after n = (given : List ℕ) × Consumes before after given × (length given ≡ n)
+
+-- a source gave some bytes, at most n, which it lost
+abbrev pub LosesAtMost : Option (List ℕ) → Option (List ℕ) → ℕ → Type 0
+LosesAtMost before after n = (given : List ℕ) × Consumes before after given × (length given ≤ n)
+
+-- why a source's bytes are not all there, and what then holds of the source before and after
+abbrev pub IsReadError : {S : Type 0} → (S → Option (List ℕ)) → (S → ℕ) → S → S → ℕ → Status → Type 0
+IsReadError left faults before after limit ReadFault = Rose (faults before) (faults after) × LosesAtMost (left before) (left after) limit
+IsReadError left faults before after limit TooMuch = (faults after ≡ faults before) × Loses (left before) (left after) (limit + 1)
+IsReadError left faults before after limit Memory = after ≡ before
+IsReadError left faults before after limit Done = ⊥
+IsReadError left faults before after limit Usage = ⊥
+IsReadError left faults before after limit WriteFault = ⊥
+IsReadError left faults before after limit Unbuilt = ⊥
+
+-- the text of the input was made, and all of it or a prefix was written
+abbrev pub HasText : Status → Type 0
+HasText status = (status ≡ Done) ⊎ (status ≡ WriteFault)
+
+-- the input was read to its end
+abbrev pub HasInput : Status → Type 0
+HasInput status = (status ≡ Done) ⊎ (status ≡ WriteFault) ⊎ (status ≡ Unbuilt)

@@ -1,0 +1,5 @@
+pub mod Files
+pub mod Memory
+pub mod Status
+pub mod Words
+pub mod Ends

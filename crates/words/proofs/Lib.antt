@@ -1,0 +1,9 @@
+pub mod Words
+pub mod ByParts
+pub mod Unique
+pub mod Exists
+pub mod Fields
+pub mod Found
+pub mod Parts
+pub mod Ascii
+pub mod Errors

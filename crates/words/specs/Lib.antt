@@ -1,0 +1,5 @@
+pub mod Word
+pub mod Reading
+pub mod Header
+pub mod Laws
+pub mod Lexer
