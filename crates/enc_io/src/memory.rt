@@ -1,5 +1,5 @@
 //! A source in memory.
-ghost use Rattle.std.specs.Prelude.{◌≡◌, ◌++◌, ◌↔◌, ◌≤◌, Some, None, IsNone, IsErr, IsTrue, IfOk, OnOk, OnErr, min, length, take, drop};
+ghost use Rattle.std.specs.Prelude.{◌≡◌, ◌++◌, ◌↔◌, ◌≤◌, Some, IsErr, IsTrue, IfOk, OnOk, OnErr, min, length, take, drop};
 ghost use Rattle.std.specs.Io.{ReadsAtMost};
 ghost use Rattle.std.specs.Io.KnownBytes.{ReadConsumes};
 ghost use Rattle.enc_io.specs.Faults.{Rose, count_after, is_failing};
@@ -70,7 +70,6 @@ impl Source for MemorySource {
         // As of every source.
         ensures within { ReadsAtMost result buf.new }
         ensures moved { ReadConsumes (Some self.old.left) (Some self.new.left) result buf.new }
-        ensures silent { IsNone (Some self.old.left) → IsNone (Some self.new.left) }
         ensures counted { OnOk result (self.new.faults ≡ self.old.faults) }
         ensures failed { OnErr result (Rose self.old.faults self.new.faults) }
         ensures never_falls { self.old.faults ≤ self.new.faults }

@@ -1,6 +1,7 @@
--- What a source has lost where a command ends.
+-- What a source has lost and a sink has taken where a command ends.
 use Rattle.std.specs.Prelude.{◌≡◌, ℕ, ◌+◌, ◌≤◌, ◌⊎◌, Option, List, length}
-use Rattle.std.specs.Io.KnownBytes.{Consumes}
+use Rattle.std.specs.Io.{StartsWith}
+use Rattle.std.specs.Io.KnownBytes.{Appends, Consumes}
 use Rattle.enc_io.specs.Faults.{Rose}
 use Rattle.unwrap.specs.declared.finish.Status.{Status}
 use Rattle.unwrap.specs.declared.finish.Status.TheVariants.{Done, Usage, ReadFault, TooMuch, WriteFault, Memory, Unbuilt}
@@ -12,6 +13,10 @@ Loses before after n = (given : List ℕ) × Consumes before after given × (len
 -- a source gave some bytes, at most n, which it lost
 abbrev pub LosesAtMost : Option (List ℕ) → Option (List ℕ) → ℕ → Type 0
 LosesAtMost before after n = (given : List ℕ) × Consumes before after given × (length given ≤ n)
+
+-- a sink took a prefix of the bytes
+abbrev pub AppendsPrefix : Option (List ℕ) → Option (List ℕ) → List ℕ → Type 0
+AppendsPrefix before after bytes = (front : List ℕ) × StartsWith bytes front × Appends before after front
 
 -- why a source's bytes are not all there, and what then holds of the source before and after
 abbrev pub IsReadError : {S : Type 0} → (S → Option (List ℕ)) → (S → ℕ) → S → S → ℕ → Status → Type 0

@@ -28,6 +28,14 @@ is_taken [] = false
 is_taken (word ∷ []) = pointwise nat_eq word (codes "unwrap")
 is_taken (word ∷ other ∷ rest) = false
 
+-- the words name no command
+abbrev pub NameNoCommand : List (String Global) → Type 0
+NameNoCommand words = is_usage (texts_of words) ≡ true
+
+-- the words are `unwrap` alone
+abbrev pub AskToUnwrap : List (String Global) → Type 0
+AskToUnwrap words = is_taken (texts_of words) ≡ true
+
 -- the words ask for this
 abbrev pub IsAsked : Command → List (List ℕ) → Type 0
 IsAsked Unwrap words = (is_usage words ≡ false) × (is_taken words ≡ true)

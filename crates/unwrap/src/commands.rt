@@ -1,12 +1,11 @@
 //! The commands.
-ghost use Rattle.std.specs.Prelude.{◌≡◌, ◌≢◌, ◌⊎◌, ◌↔◌, ◌≤◌, List, ℕ, true, false, IfSome, IsTrue, length};
-ghost use Rattle.std.specs.Io.{StartsWith};
-ghost use Rattle.std.specs.Io.KnownBytes.{Appends, Consumes, IsAtEnd};
+ghost use Rattle.std.specs.Prelude.{◌≡◌, ◌≢◌, ◌⊎◌, ◌↔◌, ◌≤◌, true, false, IfSome, length};
+ghost use Rattle.std.specs.Io.KnownBytes.{Appends, IsAtEnd};
 ghost use Rattle.enc_io.specs.Faults.{Rose};
 ghost use Rattle.enc_io.specs.Text.{stream_text};
 ghost use Rattle.words.specs.Header.{header_text, is_unbuilt};
-ghost use Rattle.unwrap.specs.Ends.{Loses, LosesAtMost, HasInput, HasText};
-ghost use Rattle.unwrap.specs.Words.{texts_of, is_usage, is_taken, is_command, IsAsked};
+ghost use Rattle.unwrap.specs.Ends.{Loses, LosesAtMost, AppendsPrefix, HasInput, HasText};
+ghost use Rattle.unwrap.specs.Words.{texts_of, is_command, NameNoCommand, AskToUnwrap, IsAsked};
 
 use crate::finish::{Finish, Status};
 use crate::moving::{read_all, write_all};
@@ -59,27 +58,40 @@ fn command_of(words: &Vec<String>) -> Command
 // Reads a source to its end, and writes its header text to a sink.
 fn show<S: Source, K: Sink>(alloc: Global, source: &mut S, out: &mut K) -> Status
     ensures no_usage { result ≢ Status.Usage }
-    // All was written.
+
+    // What was written is the header text of all that the source held.
     ensures headline { result ≡ Status.Done → IfSome (S.left source.old) (λ s.
         Appends (K.taken out.old) (K.taken out.new) (header_text (stream_text s))) }
-    ensures drained { result ≡ Status.Done → IsAtEnd (S.left source.new) }
+    ensures drained { HasInput result → IsAtEnd (S.left source.new) }
     ensures limit { HasInput result → IfSome (S.left source.old) (λ s. length s ≤ 1048576) }
     ensures built { HasText result → IfSome (S.left source.old) (λ s. is_unbuilt s ≡ false) }
-    ensures unbuilt { result ≡ Status.Unbuilt → IfSome (S.left source.old) (λ s. is_unbuilt s ≡ true) }
+    ensures unbuilt { result ≡ Status.Unbuilt
+        → IfSome (S.left source.old) (λ s. is_unbuilt s ≡ true) }
+
     // The source.
-    ensures read_fault { result ≡ Status.ReadFault → Rose (S.faults source.old) (S.faults source.new) }
-    ensures source_count { result ≢ Status.ReadFault → S.faults source.new ≡ S.faults source.old }
-    ensures too_much { result ≡ Status.TooMuch → Loses (S.left source.old) (S.left source.new) 1048577 }
-    ensures given { result ≢ Status.TooMuch → LosesAtMost (S.left source.old) (S.left source.new) 1048576 }
+    ensures read_fault { result ≡ Status.ReadFault
+        → Rose (S.faults source.old) (S.faults source.new) }
+    ensures source_count { result ≢ Status.ReadFault
+        → S.faults source.new ≡ S.faults source.old }
+    ensures too_much { result ≡ Status.TooMuch
+        → Loses (S.left source.old) (S.left source.new) 1048577 }
+    ensures given { result ≢ Status.TooMuch
+        → LosesAtMost (S.left source.old) (S.left source.new) 1048576 }
+
     // The sink.
-    ensures write_fault { result ≡ Status.WriteFault → Rose (K.faults out.old) (K.faults out.new) }
+    ensures write_fault { result ≡ Status.WriteFault
+        → Rose (K.faults out.old) (K.faults out.new) }
     ensures sink_count { result ≢ Status.WriteFault → K.faults out.new ≡ K.faults out.old }
-    ensures prefix { result ≡ Status.WriteFault → IfSome (S.left source.old) (λ s. (front : List ℕ)
-        × StartsWith (header_text (stream_text s)) front × Appends (K.taken out.old) (K.taken out.new) front) }
+    ensures prefix { result ≡ Status.WriteFault → IfSome (S.left source.old) (λ s.
+        AppendsPrefix (K.taken out.old) (K.taken out.new) (header_text (stream_text s))) }
     ensures sink_kept { ¬ HasText result → out.new ≡ out.old }
-    // When it succeeds.
-    ensures complete { IfSome (S.left source.old) (λ s. length s ≤ 1048576 → is_unbuilt s ≡ false
-        → ¬ Rose (S.faults source.old) (S.faults source.new) → ¬ Rose (K.faults out.old) (K.faults out.new)
+
+    // When it succeeds, but for want of memory.
+    ensures complete { IfSome (S.left source.old) (λ s.
+        length s ≤ 1048576
+        → is_unbuilt s ≡ false
+        → ¬ Rose (S.faults source.old) (S.faults source.new)
+        → ¬ Rose (K.faults out.old) (K.faults out.new)
         → (result ≡ Status.Done) ⊎ (result ≡ Status.Memory)) }
 {
     let bytes = match read_all(alloc, source, LIMIT) {
@@ -118,32 +130,39 @@ pub fn run<S: Source, F: Shelf, K: Sink, N: Sink>(
     notes: &mut N,
 ) -> Finish<S>
     // The words.
-    ensures usage { (result.status ≡ Status.Usage) ↔ IsTrue (is_usage (texts_of words.now.items)) }
-    ensures unbuilt_words { is_usage (texts_of words.now.items) ≡ false → is_taken (texts_of words.now.items) ≡ false
+    ensures usage { (result.status ≡ Status.Usage) ↔ NameNoCommand words.now.items }
+    ensures unbuilt_words { ¬ NameNoCommand words.now.items → ¬ AskToUnwrap words.now.items
         → result.status ≡ Status.Unbuilt }
-    ensures words_alone { is_taken (texts_of words.now.items) ≡ false → result.source ≡ source }
+    ensures words_alone { ¬ AskToUnwrap words.now.items → result.source ≡ source }
 
     // What was written is the header text of all that the source held.
     ensures headline { result.status ≡ Status.Done → IfSome (S.left source) (λ s.
         Appends (K.taken out.old) (K.taken out.new) (header_text (stream_text s))) }
-    ensures drained { result.status ≡ Status.Done → IsAtEnd (S.left result.source) }
-    ensures limit { is_taken (texts_of words.now.items) ≡ true → HasInput result.status
+    ensures drained { AskToUnwrap words.now.items → HasInput result.status
+        → IsAtEnd (S.left result.source) }
+    ensures limit { AskToUnwrap words.now.items → HasInput result.status
         → IfSome (S.left source) (λ s. length s ≤ 1048576) }
     ensures built { HasText result.status → IfSome (S.left source) (λ s. is_unbuilt s ≡ false) }
-    ensures unbuilt { is_taken (texts_of words.now.items) ≡ true → result.status ≡ Status.Unbuilt
+    ensures unbuilt { AskToUnwrap words.now.items → result.status ≡ Status.Unbuilt
         → IfSome (S.left source) (λ s. is_unbuilt s ≡ true) }
 
     // The source.
-    ensures read_fault { result.status ≡ Status.ReadFault → Rose (S.faults source) (S.faults result.source) }
-    ensures source_count { result.status ≢ Status.ReadFault → S.faults result.source ≡ S.faults source }
-    ensures too_much { result.status ≡ Status.TooMuch → Loses (S.left source) (S.left result.source) 1048577 }
-    ensures given { result.status ≢ Status.TooMuch → LosesAtMost (S.left source) (S.left result.source) 1048576 }
+    ensures read_fault { result.status ≡ Status.ReadFault
+        → Rose (S.faults source) (S.faults result.source) }
+    ensures source_count { result.status ≢ Status.ReadFault
+        → S.faults result.source ≡ S.faults source }
+    ensures too_much { result.status ≡ Status.TooMuch
+        → Loses (S.left source) (S.left result.source) 1048577 }
+    ensures given { result.status ≢ Status.TooMuch
+        → LosesAtMost (S.left source) (S.left result.source) 1048576 }
 
     // The sink.
-    ensures write_fault { result.status ≡ Status.WriteFault → Rose (K.faults out.old) (K.faults out.new) }
-    ensures sink_count { result.status ≢ Status.WriteFault → K.faults out.new ≡ K.faults out.old }
-    ensures prefix { result.status ≡ Status.WriteFault → IfSome (S.left source) (λ s. (front : List ℕ)
-        × StartsWith (header_text (stream_text s)) front × Appends (K.taken out.old) (K.taken out.new) front) }
+    ensures write_fault { result.status ≡ Status.WriteFault
+        → Rose (K.faults out.old) (K.faults out.new) }
+    ensures sink_count { result.status ≢ Status.WriteFault
+        → K.faults out.new ≡ K.faults out.old }
+    ensures prefix { result.status ≡ Status.WriteFault → IfSome (S.left source) (λ s.
+        AppendsPrefix (K.taken out.old) (K.taken out.new) (header_text (stream_text s))) }
     ensures sink_kept { ¬ HasText result.status → out.new ≡ out.old }
 
     // What no command uses yet.
@@ -151,9 +170,11 @@ pub fn run<S: Source, F: Shelf, K: Sink, N: Sink>(
     ensures notes { notes.new ≡ notes.old }
 
     // When it succeeds, but for want of memory.
-    ensures complete { is_taken (texts_of words.now.items) ≡ true
-        → IfSome (S.left source) (λ s. length s ≤ 1048576 → is_unbuilt s ≡ false
-        → ¬ Rose (S.faults source) (S.faults result.source) → ¬ Rose (K.faults out.old) (K.faults out.new)
+    ensures complete { AskToUnwrap words.now.items → IfSome (S.left source) (λ s.
+        length s ≤ 1048576
+        → is_unbuilt s ≡ false
+        → ¬ Rose (S.faults source) (S.faults result.source)
+        → ¬ Rose (K.faults out.old) (K.faults out.new)
         → (result.status ≡ Status.Done) ⊎ (result.status ≡ Status.Memory)) }
 {
     let _ = shelf;

@@ -44,3 +44,6 @@ fn main(rt: HostRuntime) -> ExitCode {
     let finish = run(alloc, &words, &mut shelf, source, &mut out, &mut notes);
     ExitCode::from(finish.status.code())
 }
+
+#[cfg(test)]
+mod tests;

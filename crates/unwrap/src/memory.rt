@@ -1,5 +1,5 @@
 //! A sink and a shelf in memory.
-ghost use Rattle.std.specs.Prelude.{◌≡◌, ◌+◌, ◌++◌, ◌<◌, ◌≤◌, ◌↔◌, ◌||◌, Some, None, IsNone, is_none, is_err, IfOk, OnOk, OnErr, IsErrOf, IsTrue, [], min, length, take, vec_len};
+ghost use Rattle.std.specs.Prelude.{◌≡◌, ◌+◌, ◌++◌, ◌<◌, ◌≤◌, ◌↔◌, ◌||◌, Some, is_none, is_err, IfOk, OnOk, OnErr, IsErrOf, IsTrue, [], min, length, take, vec_len};
 ghost use Rattle.std.specs.Option.{option_copied};
 ghost use Rattle.std.specs.Io.{WritesAtMost};
 ghost use Rattle.std.specs.Io.KnownBytes.{WriteAppends};
@@ -102,7 +102,6 @@ impl Sink for MemorySink {
         ensures within { WritesAtMost result piece.now }
         ensures appended { WriteAppends (Some self.old.taken) (Some self.new.taken) result piece.now }
         ensures some { IfOk result (λ n. 0 < length piece.now → 1 ≤ n) }
-        ensures silent { IsNone (Some self.old.taken) → IsNone (Some self.new.taken) }
         ensures counted { OnOk result (self.new.faults ≡ self.old.faults) }
         ensures failed { OnErr result (Rose self.old.faults self.new.faults) }
         ensures never_falls { self.old.faults ≤ self.new.faults }

@@ -1,9 +1,8 @@
 //! Moving bytes from a source and to a sink.
-ghost use Rattle.std.specs.Prelude.{◌≡◌, ◌<◌, ◌≤◌, IfOk, IfErr, OnOk, OnErr, List, ℕ, length, vec_len};
-ghost use Rattle.std.specs.Io.{StartsWith};
+ghost use Rattle.std.specs.Prelude.{◌≡◌, ◌<◌, ◌≤◌, IfOk, IfErr, OnOk, OnErr, length, vec_len};
 ghost use Rattle.std.specs.Io.KnownBytes.{Appends, Consumes, IsAtEnd};
 ghost use Rattle.enc_io.specs.Faults.{Rose};
-ghost use Rattle.unwrap.specs.Ends.{IsReadError};
+ghost use Rattle.unwrap.specs.Ends.{AppendsPrefix, IsReadError};
 
 use crate::finish::Status;
 use crate::outside::Sink;
@@ -53,7 +52,7 @@ pub fn read_all<S: Source>(alloc: Global, source: &mut S, limit: usize) -> Resul
 /// `Failed` where the sink failed; it then has a prefix of the bytes.
 pub fn write_all<K: Sink>(sink: &mut K, bytes: &[u8]) -> Result<(), Failed>
     ensures written { OnOk result (Appends (K.taken sink.old) (K.taken sink.new) bytes.now) }
-    ensures prefix { OnErr result ((front : List ℕ) × StartsWith bytes.now front × Appends (K.taken sink.old) (K.taken sink.new) front) }
+    ensures prefix { OnErr result (AppendsPrefix (K.taken sink.old) (K.taken sink.new) bytes.now) }
     ensures counted { OnOk result (K.faults sink.new ≡ K.faults sink.old) }
     ensures failed { OnErr result (Rose (K.faults sink.old) (K.faults sink.new)) }
 {

@@ -1,0 +1,292 @@
+//! What no clause says: that the worked rows come out, and that memory was there.
+ghost use Rattle.std.specs.Prelude.{◌≤◌};
+
+use crate::commands::run;
+use crate::finish::Status;
+use crate::memory::{MemoryShelf, MemorySink};
+use crate::outside::{Shelf, ShelfError, Sink};
+use crate::stream::StreamSink;
+use enc_io::{Failed, MemorySource, Source, StreamSource};
+use std::alloc::{AllocError, Global};
+use std::io;
+use std::io::{Error, ErrorKind, Read, Write};
+use std::test::Fail;
+
+// How a command ended, what it wrote, and the source as it stands then.
+#[derive(Drop)]
+struct Outcome {
+    status: Status,
+    written: Vec<u8>,
+    source: MemorySource,
+}
+
+// The words, as texts of their own.
+fn words_of(alloc: Global, words: &[&str]) -> Result<Vec<String>, AllocError> {
+    let mut all = Vec::new(alloc);
+    for word in words {
+        all.push(String::from_str(alloc, word)?)?;
+    }
+    Ok(all)
+}
+
+// Runs a command over an input in memory, with devices of this step, of which one read and one write
+// fail; call 0 never comes.
+fn run_once(
+    alloc: Global,
+    words: &[&str],
+    input: Vec<u8>,
+    step: usize,
+    read: u64,
+    write: u64,
+) -> Result<Outcome, AllocError>
+    requires { 1 ≤ step }
+{
+    let words = words_of(alloc, words)?;
+    let mut shelf = MemoryShelf::new(Vec::new(alloc), Vec::new(alloc));
+    let room = vec![in alloc; 0u8; input.len()]?;
+    let source = MemorySource::new(input, step, vec![in alloc; read]?);
+    let mut out = MemorySink::new(room, step, vec![in alloc; write]?);
+    let mut notes = MemorySink::new(Vec::new(alloc), 1, Vec::new(alloc));
+    let finish = run(alloc, &words, &mut shelf, source, &mut out, &mut notes);
+    Ok(Outcome {
+        status: finish.status,
+        written: Vec::from_slice(alloc, out.taken())?,
+        source: finish.source,
+    })
+}
+
+#[test]
+fn rows(rt: HostRuntime) -> Result<(), Fail> {
+    let alloc = rt.alloc();
+    let rows = [
+        ("empty", "", Status::Done, ""),
+        (
+            "an address",
+            "=?US-ASCII?Q?Keith_Moore?= <moore@cs.utk.edu>",
+            Status::Done,
+            "Keith Moore <moore@cs.utk.edu>",
+        ),
+        (
+            "words side by side",
+            "=?UTF-8?Q?str?==?UTF-8?Q?str?=",
+            Status::Done,
+            "strstr",
+        ),
+        (
+            "words on two lines",
+            "=?UTF-8?Q?str?=\r\n =?UTF-8?Q?str?=",
+            Status::Done,
+            "strstr",
+        ),
+        (
+            "underscores at the end",
+            "=?utf-8?Q?a__?=",
+            Status::Done,
+            "a",
+        ),
+        ("cut short", "=?UTF-8?Q?a", Status::Done, "=?UTF-8?Q?a"),
+        (
+            "a bracket in the charset",
+            "=?ISO-8859-1(?Q?a?=",
+            Status::Done,
+            "=?ISO-8859-1(?Q?a?=",
+        ),
+        (
+            "a value beyond ASCII",
+            "=?UTF-8?Q?=C3=A4?=",
+            Status::Unbuilt,
+            "",
+        ),
+    ];
+    for (name, input, status, text) in rows {
+        let bytes = Vec::from_slice(alloc, input.as_bytes())?;
+        let end = run_once(alloc, &["unwrap"], bytes, 7, 0, 0)?;
+        assert_eq!(rt; end.status, status, "{name}");
+        assert_eq!(rt; end.written.as_slice(), text.as_bytes(), "{name}");
+    }
+    Ok(())
+}
+
+#[test]
+fn words_before_the_source(rt: HostRuntime) -> Result<(), Fail> {
+    let alloc = rt.alloc();
+    let rows: [(&[&str], Status); 5] = [
+        (&[], Status::Usage),
+        (&["x"], Status::Usage),
+        (&["unwrap", "--strip-bom"], Status::Unbuilt),
+        (&["text"], Status::Unbuilt),
+        (&["make", "3"], Status::Unbuilt),
+    ];
+    for (words, status) in rows {
+        let bytes = Vec::from_slice(alloc, b"a")?;
+        let mut end = run_once(alloc, words, bytes, 1, 1, 0)?;
+        assert_eq!(rt; end.status, status);
+        assert!(rt; end.written.is_empty());
+        // The first call on the source is this one.
+        let mut buf = [0];
+        assert_eq!(rt; end.source.read(&mut buf), Err(Failed));
+        assert_eq!(rt; end.source.read(&mut buf), Ok(1));
+    }
+    Ok(())
+}
+
+#[test]
+fn each_call_fails_in_turn(rt: HostRuntime) -> Result<(), Fail> {
+    let alloc = rt.alloc();
+    let input = b"=?utf-8?q?ab?= c";
+    for call in 1..18 {
+        let bytes = Vec::from_slice(alloc, input)?;
+        let end = run_once(alloc, &["unwrap"], bytes, 1, call, 0)?;
+        assert_eq!(rt; end.status, Status::ReadFault, "read {call}");
+        assert!(rt; end.written.is_empty(), "read {call}");
+    }
+    for (call, front) in [(1, ""), (2, "a"), (3, "ab"), (4, "ab ")] {
+        let bytes = Vec::from_slice(alloc, input)?;
+        let end = run_once(alloc, &["unwrap"], bytes, 1, 0, call)?;
+        assert_eq!(rt; end.status, Status::WriteFault, "write {call}");
+        assert_eq!(rt; end.written.as_slice(), front.as_bytes(), "write {call}");
+    }
+    let end = run_once(alloc, &["unwrap"], Vec::from_slice(alloc, input)?, 1, 18, 5)?;
+    assert_eq!(rt; end.status, Status::Done);
+    assert_eq!(rt; end.written.as_slice(), b"ab c".as_slice());
+    Ok(())
+}
+
+#[test]
+fn most_bytes(rt: HostRuntime) -> Result<(), Fail> {
+    let alloc = rt.alloc();
+    let rows = [
+        (1_048_576, Status::Done, 1_048_576),
+        (1_048_577, Status::TooMuch, 0),
+    ];
+    for (len, status, written) in rows {
+        let input = vec![in alloc; b'a'; len]?;
+        let end = run_once(alloc, &["unwrap"], input, 65_536, 0, 0)?;
+        assert_eq!(rt; end.status, status, "{len}");
+        assert_eq!(rt; end.written.len(), written, "{len}");
+    }
+    Ok(())
+}
+
+#[test]
+fn memory_sink(rt: HostRuntime) -> Result<(), Fail> {
+    let alloc = rt.alloc();
+    let room = vec![in alloc; 0u8; 4]?;
+    let mut sink = MemorySink::new(room, 3, vec![in alloc; 2]?);
+    assert_eq!(rt; sink.write(b"abcd"), Ok(3));
+    assert_eq!(rt; sink.write(b"d"), Err(Failed));
+    assert_eq!(rt; sink.write(b"de"), Ok(1));
+    assert_eq!(rt; sink.write(b"e"), Err(Failed));
+    assert_eq!(rt; sink.write(b""), Ok(0));
+    assert_eq!(rt; sink.taken(), b"abcd".as_slice());
+    Ok(())
+}
+
+#[test]
+fn memory_shelf(rt: HostRuntime) -> Result<(), Fail> {
+    let alloc = rt.alloc();
+    let files = [("a", 1), ("a", 2), ("full", 4_194_304), ("long", 4_194_305)];
+    let mut entries = Vec::new(alloc);
+    for (name, len) in files {
+        let bytes = vec![in alloc; 0u8; len]?;
+        entries.push((String::from_str(alloc, name)?, bytes))?;
+    }
+    let mut shelf = MemoryShelf::new(entries, vec![in alloc; 2]?);
+    let rows = [
+        ("a", Ok(1)),
+        ("long", Err(ShelfError::Failed)),
+        ("long", Err(ShelfError::TooLong)),
+        ("full", Ok(4_194_304)),
+        ("b", Err(ShelfError::Failed)),
+    ];
+    for (name, want) in rows {
+        let len = shelf.fetch(alloc, name).map(|bytes| bytes.len());
+        assert_eq!(rt; len, want, "{name}");
+    }
+    Ok(())
+}
+
+/// A writer that takes two bytes of each write into a vector, and fails to flush the second time.
+#[derive(Drop)]
+struct Short {
+    written: Vec<u8>,
+    flushes: u8,
+}
+
+impl Write for Short {
+    fn write(&mut self, buf: &[u8]) -> io::Result<usize> {
+        let n = buf.len().min(2);
+        self.written.extend_from_slice(&buf[..n])?;
+        Ok(n)
+    }
+
+    fn flush(&mut self) -> io::Result<()> {
+        if self.flushes == 1 {
+            return Err(Error::from(ErrorKind::BrokenPipe));
+        }
+        self.flushes = 1;
+        Ok(())
+    }
+}
+
+/// A writer that takes nothing, and a reader that fails.
+#[derive(Drop)]
+struct Closed;
+
+impl Write for Closed {
+    fn write(&mut self, _buf: &[u8]) -> io::Result<usize> {
+        Ok(0)
+    }
+
+    fn flush(&mut self) -> io::Result<()> {
+        Ok(())
+    }
+}
+
+impl Read for Closed {
+    fn read(&mut self, _buf: &mut [u8]) -> io::Result<usize> {
+        Err(Error::from(ErrorKind::BrokenPipe))
+    }
+}
+
+#[test]
+fn stream_sink(rt: HostRuntime) -> Result<(), Fail> {
+    let alloc = rt.alloc();
+    let mut short = Short {
+        written: Vec::new(alloc),
+        flushes: 0,
+    };
+    let mut sink = StreamSink::new(&mut short);
+    assert_eq!(rt; sink.write(b"abc"), Ok(2));
+    assert_eq!(rt; sink.write(b"c"), Err(Failed));
+    assert_eq!(rt; short.written.as_slice(), b"abc".as_slice());
+
+    let mut sink = StreamSink::new(Closed);
+    assert_eq!(rt; sink.write(b"a"), Err(Failed));
+    assert_eq!(rt; sink.write(b""), Ok(0));
+    Ok(())
+}
+
+#[test]
+fn streams(rt: HostRuntime) -> Result<(), Fail> {
+    let alloc = rt.alloc();
+    let words = words_of(alloc, &["unwrap"])?;
+    let mut shelf = MemoryShelf::new(Vec::new(alloc), Vec::new(alloc));
+    let mut written = Vec::new(alloc);
+    let mut out = StreamSink::new(&mut written);
+    let mut notes = StreamSink::new(Closed);
+    let source = StreamSource::new(b"=?us-ascii?Q?a=20b?=".as_slice());
+    let finish = run(alloc, &words, &mut shelf, source, &mut out, &mut notes);
+    assert_eq!(rt; finish.status, Status::Done);
+    assert_eq!(rt; written.as_slice(), b"a b".as_slice());
+
+    let mut out = StreamSink::new(Closed);
+    let source = StreamSource::new(b"a".as_slice());
+    let finish = run(alloc, &words, &mut shelf, source, &mut out, &mut notes);
+    assert_eq!(rt; finish.status, Status::WriteFault);
+
+    let source = StreamSource::new(Closed);
+    let finish = run(alloc, &words, &mut shelf, source, &mut out, &mut notes);
+    assert_eq!(rt; finish.status, Status::ReadFault);
+    Ok(())
+}
