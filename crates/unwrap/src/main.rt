@@ -1,6 +1,8 @@
 //! Shows the encoded words of a mail header: RFC 2047.
 #![tactic(auto)]
 
+ghost use Rattle.std.specs.Prelude.{◌≡◌, ◌⊎◌, IfErr};
+
 pub mod commands;
 pub mod finish;
 pub mod memory;
@@ -23,7 +25,9 @@ use std::process::ExitCode;
 /// # Errors
 ///
 /// `Usage` for a word that is not UTF-8; `Memory`.
-fn words_given(rt: &(impl Env + AllocGlobal)) -> Result<Vec<String>, Status> {
+fn words_given(rt: &(impl Env + AllocGlobal)) -> Result<Vec<String>, Status>
+    ensures { IfErr result (λ status. (status ≡ Status.Usage) ⊎ (status ≡ Status.Memory)) }
+{
     match env::args(rt) {
         Ok(args) => args.skip(1).collect(rt.alloc()).map_err(|_| Status::Memory),
         Err(e) if e.kind() == ErrorKind::InvalidData => Err(Status::Usage),

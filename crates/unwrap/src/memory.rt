@@ -106,13 +106,16 @@ impl Sink for MemorySink {
         ensures failed { OnErr result (Rose self.old.faults self.new.faults) }
         ensures never_falls { self.old.faults ≤ self.new.faults }
         // What it does exactly.
-        ensures fails { is_err result ≡ (is_failing self.old.failing self.new.calls || is_full self.old.room piece.now) }
+        ensures fails { is_err result
+            ≡ (is_failing self.old.failing self.new.calls || is_full self.old.room piece.now) }
         ensures calls { self.new.calls ≡ count_after self.old.calls }
         ensures faults { OnErr result (self.new.faults ≡ count_after self.old.faults) }
-        ensures amount { IfOk result (λ n. n ≡ min self.old.step (min (length piece.now) self.old.room)) }
+        ensures amount { IfOk result (λ n.
+            n ≡ min self.old.step (min (length piece.now) self.old.room)) }
         ensures taken { IfOk result (λ n. self.new.taken ≡ self.old.taken ++ take n piece.now) }
         ensures room { IfOk result (λ n. self.new.room + n ≡ self.old.room) }
-        ensures kept { OnErr result ((self.new.taken ≡ self.old.taken) × (self.new.room ≡ self.old.room)) }
+        ensures kept { OnErr result (self.new.taken ≡ self.old.taken) }
+        ensures kept_room { OnErr result (self.new.room ≡ self.old.room) }
         ensures step { self.new.step ≡ self.old.step }
         ensures failing { self.new.failing ≡ self.old.failing }
     {
@@ -197,18 +200,23 @@ impl Shelf for MemoryShelf {
         // As of every shelf.
         ensures found { IfOk result (λ bytes. file self.old.files name.now ≡ Some bytes.items) }
         ensures short { IfOk result (λ bytes. IsShortFile bytes.items) }
-        ensures long { IsErrOf result ShelfError.TooLong → IsLongFile (file self.old.files name.now) }
+        ensures long { IsErrOf result ShelfError.TooLong
+            → IsLongFile (file self.old.files name.now) }
         ensures same { self.new.files ≡ self.old.files }
         ensures calls { self.new.calls ≡ count_after self.old.calls }
         ensures counted { OnOk result (self.new.faults ≡ self.old.faults) }
-        ensures counted_memory { IsErrOf result ShelfError.Memory → self.new.faults ≡ self.old.faults }
-        ensures counted_long { IsErrOf result ShelfError.TooLong → self.new.faults ≡ self.old.faults }
+        ensures counted_memory { IsErrOf result ShelfError.Memory
+            → self.new.faults ≡ self.old.faults }
+        ensures counted_long { IsErrOf result ShelfError.TooLong
+            → self.new.faults ≡ self.old.faults }
         ensures failed { IsErrOf result ShelfError.Failed → Rose self.old.faults self.new.faults }
         ensures never_falls { self.old.faults ≤ self.new.faults }
         // What it does exactly.
         ensures fails { IsErrOf result ShelfError.Failed
-            ↔ IsTrue (is_failing self.old.failing self.new.calls || is_none (file self.old.files name.now)) }
-        ensures faults { IsErrOf result ShelfError.Failed → self.new.faults ≡ count_after self.old.faults }
+            ↔ IsTrue (is_failing self.old.failing self.new.calls
+            || is_none (file self.old.files name.now)) }
+        ensures faults { IsErrOf result ShelfError.Failed
+            → self.new.faults ≡ count_after self.old.faults }
         ensures failing { self.new.failing ≡ self.old.failing }
     {
         self.calls = self.calls.saturating_add(1);

@@ -24,11 +24,13 @@ fn zeroes(alloc: Global, len: usize) -> Result<Vec<u8>, AllocError>
 /// before any call on the source.
 pub fn read_all<S: Source>(alloc: Global, source: &mut S, limit: usize) -> Result<Vec<u8>, Status>
     requires { limit < usize.MAX }
-    ensures moved { IfOk result (λ bytes. Consumes (S.left source.old) (S.left source.new) bytes.items) }
+    ensures moved { IfOk result (λ bytes.
+        Consumes (S.left source.old) (S.left source.new) bytes.items) }
     ensures end { OnOk result (IsAtEnd (S.left source.new)) }
     ensures within { IfOk result (λ bytes. length bytes.items ≤ limit) }
     ensures counted { OnOk result (S.faults source.new ≡ S.faults source.old) }
-    ensures errors { IfErr result (IsReadError S.left S.faults source.old source.new limit) }
+    ensures errors { IfErr result
+        (IsReadError S.left S.faults source.old source.new limit) }
 {
     let mut bytes = match zeroes(alloc, limit + 1) {
         Ok(bytes) => bytes,

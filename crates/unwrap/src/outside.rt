@@ -81,14 +81,19 @@ pub trait Shelf {
     /// has this name; else `TooLong` exactly where the file has more than 4,194,304 bytes. `Memory`
     /// may come at any growth.
     fn fetch(&mut self, alloc: Global, name: &str) -> Result<Vec<u8>, ShelfError>
-        ensures found { IfOk result (λ bytes. IfSome (files self.old) (λ all. file all name.now ≡ Some bytes.items)) }
+        ensures found { IfOk result (λ bytes.
+            IfSome (files self.old) (λ all. file all name.now ≡ Some bytes.items)) }
         ensures short { IfOk result (λ bytes. IsShortFile bytes.items) }
-        ensures long { IsErrOf result ShelfError.TooLong → IfSome (files self.old) (λ all. IsLongFile (file all name.now)) }
+        ensures long { IsErrOf result ShelfError.TooLong
+            → IfSome (files self.old) (λ all. IsLongFile (file all name.now)) }
         ensures same { files self.new ≡ files self.old }
         ensures calls { calls self.new ≡ count_after (calls self.old) }
         ensures counted { OnOk result (faults self.new ≡ faults self.old) }
-        ensures counted_memory { IsErrOf result ShelfError.Memory → faults self.new ≡ faults self.old }
-        ensures counted_long { IsErrOf result ShelfError.TooLong → faults self.new ≡ faults self.old }
-        ensures failed { IsErrOf result ShelfError.Failed → Rose (faults self.old) (faults self.new) }
+        ensures counted_memory { IsErrOf result ShelfError.Memory
+            → faults self.new ≡ faults self.old }
+        ensures counted_long { IsErrOf result ShelfError.TooLong
+            → faults self.new ≡ faults self.old }
+        ensures failed { IsErrOf result ShelfError.Failed
+            → Rose (faults self.old) (faults self.new) }
         ensures never_falls { faults self.old ≤ faults self.new };
 }

@@ -100,3 +100,6 @@ pub fn word_at(bytes: &[u8]) -> Option<WordSlices<'_>>
         encoded_text,
     })
 }
+
+#[cfg(test)]
+mod tests;

@@ -1,0 +1,303 @@
+-- The laws of UTF-8.
+use Rattle.std.proofs.Common.{◌≡◌, ℕ, suc, ◌+◌, ◌-◌, ◌*◌, ◌<◌, ◌≤◌, Bool, true, false, leb-true, ltb-true, eqb, List, [], ◌∷◌, length, get_or, take, refl, ap, arith, inl, inr, ⊎_elim}
+use Rattle.std.specs.Prelude.{nat_le, nat_lt, ◌&&◌, ◌||◌, ◌⊎◌}
+use Rattle.std.specs.Char.{IsScalar}
+use Rattle.std.proofs.lemmas.Bool.{and_parts, or_cases, eqb-false, lt-ltb}
+use Rattle.enc_handles.specs.Utf8.{byte_in, is_tail_at, begins_two, begins_three, begins_four, sequence_len, sequence_scalar}
+use Rattle.enc_drivers.specs.declared.Mode.{Mode}
+use Rattle.enc_drivers.specs.Units.{scalar_at, malformed_at, IsCode, IsUnitOf, AreBytes}
+use Rattle.enc_drivers.specs.Utf8.{begins_pair, two_of_three, two_of_four, malformed_len, utf8_unit}
+use Rattle.enc_drivers.proofs.Scalars.{scalar_low, scalar_high, encode_four, encode_one}
+
+-- a byte from low to high stands at place k
+pub record ByteAt (bytes : List ℕ) (k low high : ℕ) : Type 0 where
+  pub within : k < length bytes
+  pub low_end : low ≤ get_or bytes k 0
+  pub high_end : get_or bytes k 0 ≤ high
+
+pub byte_at : (bytes : List ℕ) (k low high : ℕ) → byte_in bytes k low high ≡ true → ByteAt bytes k low high
+byte_at bytes k low high e =
+    let p = and_parts (nat_lt k (length bytes)) (nat_le low (get_or bytes k 0) && nat_le (get_or bytes k 0) high) e in
+    let q = and_parts (nat_le low (get_or bytes k 0)) (nat_le (get_or bytes k 0) high) p.1 in
+    record {
+      within = ltb-true k (length bytes) p.0;
+      low_end = leb-true low (get_or bytes k 0) q.0;
+      high_end = leb-true (get_or bytes k 0) high q.1;
+    }
+
+-- the row of the table that the bytes begin with
+pub data Row (bytes : List ℕ) : Type 0 where
+  no_row : sequence_len bytes ≡ 0 → Row bytes
+  one : sequence_len bytes ≡ 1 → (byte_in bytes 0 0x00 0x7F) ≡ true → Row bytes
+  two : sequence_len bytes ≡ 2 → (begins_two bytes 0xC2 0xDF) ≡ true → Row bytes
+  three_e0 : sequence_len bytes ≡ 3 → (begins_three bytes 0xE0 0xE0 0xA0 0xBF) ≡ true → Row bytes
+  three_e1 : sequence_len bytes ≡ 3 → (begins_three bytes 0xE1 0xEC 0x80 0xBF) ≡ true → Row bytes
+  three_ed : sequence_len bytes ≡ 3 → (begins_three bytes 0xED 0xED 0x80 0x9F) ≡ true → Row bytes
+  three_ee : sequence_len bytes ≡ 3 → (begins_three bytes 0xEE 0xEF 0x80 0xBF) ≡ true → Row bytes
+  four_f0 : sequence_len bytes ≡ 4 → (begins_four bytes 0xF0 0xF0 0x90 0xBF) ≡ true → Row bytes
+  four_f1 : sequence_len bytes ≡ 4 → (begins_four bytes 0xF1 0xF3 0x80 0xBF) ≡ true → Row bytes
+  four_f4 : sequence_len bytes ≡ 4 → (begins_four bytes 0xF4 0xF4 0x80 0x8F) ≡ true → Row bytes
+
+module _ (bytes : List ℕ) where
+  at_four_f4 : (byte_in bytes 0 0x00 0x7F) ≡ false → (begins_two bytes 0xC2 0xDF) ≡ false → (begins_three bytes 0xE0 0xE0 0xA0 0xBF) ≡ false → (begins_three bytes 0xE1 0xEC 0x80 0xBF) ≡ false → (begins_three bytes 0xED 0xED 0x80 0x9F) ≡ false → (begins_three bytes 0xEE 0xEF 0x80 0xBF) ≡ false → (begins_four bytes 0xF0 0xF0 0x90 0xBF) ≡ false → (begins_four bytes 0xF1 0xF3 0x80 0xBF) ≡ false → (b : Bool) → (begins_four bytes 0xF4 0xF4 0x80 0x8F) ≡ b → Row bytes
+  unfolding sequence_len
+  at_four_f4 e0 e1 e2 e3 e4 e5 e6 e7 true e = four_f4 (rw (e0, e1, e2, e3, e4, e5, e6, e7, e) refl) e
+  at_four_f4 e0 e1 e2 e3 e4 e5 e6 e7 false e = no_row (rw (e0, e1, e2, e3, e4, e5, e6, e7, e) refl)
+
+  at_four_f1 : (byte_in bytes 0 0x00 0x7F) ≡ false → (begins_two bytes 0xC2 0xDF) ≡ false → (begins_three bytes 0xE0 0xE0 0xA0 0xBF) ≡ false → (begins_three bytes 0xE1 0xEC 0x80 0xBF) ≡ false → (begins_three bytes 0xED 0xED 0x80 0x9F) ≡ false → (begins_three bytes 0xEE 0xEF 0x80 0xBF) ≡ false → (begins_four bytes 0xF0 0xF0 0x90 0xBF) ≡ false → (b : Bool) → (begins_four bytes 0xF1 0xF3 0x80 0xBF) ≡ b → Row bytes
+  unfolding sequence_len
+  at_four_f1 e0 e1 e2 e3 e4 e5 e6 true e = four_f1 (rw (e0, e1, e2, e3, e4, e5, e6, e) refl) e
+  at_four_f1 e0 e1 e2 e3 e4 e5 e6 false e = at_four_f4 e0 e1 e2 e3 e4 e5 e6 e (begins_four bytes 0xF4 0xF4 0x80 0x8F) refl
+
+  at_four_f0 : (byte_in bytes 0 0x00 0x7F) ≡ false → (begins_two bytes 0xC2 0xDF) ≡ false → (begins_three bytes 0xE0 0xE0 0xA0 0xBF) ≡ false → (begins_three bytes 0xE1 0xEC 0x80 0xBF) ≡ false → (begins_three bytes 0xED 0xED 0x80 0x9F) ≡ false → (begins_three bytes 0xEE 0xEF 0x80 0xBF) ≡ false → (b : Bool) → (begins_four bytes 0xF0 0xF0 0x90 0xBF) ≡ b → Row bytes
+  unfolding sequence_len
+  at_four_f0 e0 e1 e2 e3 e4 e5 true e = four_f0 (rw (e0, e1, e2, e3, e4, e5, e) refl) e
+  at_four_f0 e0 e1 e2 e3 e4 e5 false e = at_four_f1 e0 e1 e2 e3 e4 e5 e (begins_four bytes 0xF1 0xF3 0x80 0xBF) refl
+
+  at_three_ee : (byte_in bytes 0 0x00 0x7F) ≡ false → (begins_two bytes 0xC2 0xDF) ≡ false → (begins_three bytes 0xE0 0xE0 0xA0 0xBF) ≡ false → (begins_three bytes 0xE1 0xEC 0x80 0xBF) ≡ false → (begins_three bytes 0xED 0xED 0x80 0x9F) ≡ false → (b : Bool) → (begins_three bytes 0xEE 0xEF 0x80 0xBF) ≡ b → Row bytes
+  unfolding sequence_len
+  at_three_ee e0 e1 e2 e3 e4 true e = three_ee (rw (e0, e1, e2, e3, e4, e) refl) e
+  at_three_ee e0 e1 e2 e3 e4 false e = at_four_f0 e0 e1 e2 e3 e4 e (begins_four bytes 0xF0 0xF0 0x90 0xBF) refl
+
+  at_three_ed : (byte_in bytes 0 0x00 0x7F) ≡ false → (begins_two bytes 0xC2 0xDF) ≡ false → (begins_three bytes 0xE0 0xE0 0xA0 0xBF) ≡ false → (begins_three bytes 0xE1 0xEC 0x80 0xBF) ≡ false → (b : Bool) → (begins_three bytes 0xED 0xED 0x80 0x9F) ≡ b → Row bytes
+  unfolding sequence_len
+  at_three_ed e0 e1 e2 e3 true e = three_ed (rw (e0, e1, e2, e3, e) refl) e
+  at_three_ed e0 e1 e2 e3 false e = at_three_ee e0 e1 e2 e3 e (begins_three bytes 0xEE 0xEF 0x80 0xBF) refl
+
+  at_three_e1 : (byte_in bytes 0 0x00 0x7F) ≡ false → (begins_two bytes 0xC2 0xDF) ≡ false → (begins_three bytes 0xE0 0xE0 0xA0 0xBF) ≡ false → (b : Bool) → (begins_three bytes 0xE1 0xEC 0x80 0xBF) ≡ b → Row bytes
+  unfolding sequence_len
+  at_three_e1 e0 e1 e2 true e = three_e1 (rw (e0, e1, e2, e) refl) e
+  at_three_e1 e0 e1 e2 false e = at_three_ed e0 e1 e2 e (begins_three bytes 0xED 0xED 0x80 0x9F) refl
+
+  at_three_e0 : (byte_in bytes 0 0x00 0x7F) ≡ false → (begins_two bytes 0xC2 0xDF) ≡ false → (b : Bool) → (begins_three bytes 0xE0 0xE0 0xA0 0xBF) ≡ b → Row bytes
+  unfolding sequence_len
+  at_three_e0 e0 e1 true e = three_e0 (rw (e0, e1, e) refl) e
+  at_three_e0 e0 e1 false e = at_three_e1 e0 e1 e (begins_three bytes 0xE1 0xEC 0x80 0xBF) refl
+
+  at_two : (byte_in bytes 0 0x00 0x7F) ≡ false → (b : Bool) → (begins_two bytes 0xC2 0xDF) ≡ b → Row bytes
+  unfolding sequence_len
+  at_two e0 true e = two (rw (e0, e) refl) e
+  at_two e0 false e = at_three_e0 e0 e (begins_three bytes 0xE0 0xE0 0xA0 0xBF) refl
+
+  at_one : (b : Bool) → (byte_in bytes 0 0x00 0x7F) ≡ b → Row bytes
+  unfolding sequence_len
+  at_one true e = one (rw e refl) e
+  at_one false e = at_two e (begins_two bytes 0xC2 0xDF) refl
+
+  pub row_of : Row bytes
+  row_of = at_one (byte_in bytes 0 0x00 0x7F) refl
+
+-- the bytes of the rows
+both : (bytes : List ℕ) (low high second_low second_high : ℕ) → begins_pair bytes low high second_low second_high ≡ true → ByteAt bytes 0 low high × ByteAt bytes 1 second_low second_high
+both bytes low high second_low second_high e =
+    let p = and_parts (byte_in bytes 0 low high) (byte_in bytes 1 second_low second_high) e in
+    (byte_at bytes 0 low high p.0, byte_at bytes 1 second_low second_high p.1)
+
+pub record Three (bytes : List ℕ) (low high second_low second_high : ℕ) : Type 0 where
+  pub first : ByteAt bytes 0 low high
+  pub second : ByteAt bytes 1 second_low second_high
+  pub third : ByteAt bytes 2 0x80 0xBF
+
+three : (bytes : List ℕ) (low high second_low second_high : ℕ) → begins_three bytes low high second_low second_high ≡ true → Three bytes low high second_low second_high
+three bytes low high second_low second_high e =
+    let p = and_parts (byte_in bytes 0 low high) (byte_in bytes 1 second_low second_high && is_tail_at bytes 2) e in
+    let q = and_parts (byte_in bytes 1 second_low second_high) (is_tail_at bytes 2) p.1 in
+    record {
+      first = byte_at bytes 0 low high p.0;
+      second = byte_at bytes 1 second_low second_high q.0;
+      third = byte_at bytes 2 0x80 0xBF q.1;
+    }
+
+pub record Four (bytes : List ℕ) (low high second_low second_high : ℕ) : Type 0 where
+  pub three : Three bytes low high second_low second_high
+  pub fourth : ByteAt bytes 3 0x80 0xBF
+
+four : (bytes : List ℕ) (low high second_low second_high : ℕ) → begins_four bytes low high second_low second_high ≡ true → Four bytes low high second_low second_high
+four bytes low high second_low second_high e =
+    let p = and_parts (byte_in bytes 0 low high) (byte_in bytes 1 second_low second_high && (is_tail_at bytes 2 && is_tail_at bytes 3)) e in
+    let q = and_parts (byte_in bytes 1 second_low second_high) (is_tail_at bytes 2 && is_tail_at bytes 3) p.1 in
+    let r = and_parts (is_tail_at bytes 2) (is_tail_at bytes 3) q.1 in
+    record {
+      three = record {
+        first = byte_at bytes 0 low high p.0;
+        second = byte_at bytes 1 second_low second_high q.0;
+        third = byte_at bytes 2 0x80 0xBF r.0;
+      };
+      fourth = byte_at bytes 3 0x80 0xBF r.1;
+    }
+
+-- the scalar by the sequence's length
+scalar_one : (bytes : List ℕ) → sequence_len bytes ≡ 1 → sequence_scalar bytes ≡ get_or bytes 0 0
+unfolding sequence_scalar
+scalar_one bytes e = rw e refl
+
+scalar_two : (bytes : List ℕ) → sequence_len bytes ≡ 2 → sequence_scalar bytes ≡ (get_or bytes 0 0 - 0xC0) * 0x40 + (get_or bytes 1 0 - 0x80)
+unfolding sequence_scalar
+scalar_two bytes e = rw e refl
+
+scalar_three : (bytes : List ℕ) → sequence_len bytes ≡ 3 → sequence_scalar bytes ≡ (get_or bytes 0 0 - 0xE0) * 0x1000 + (get_or bytes 1 0 - 0x80) * 0x40 + (get_or bytes 2 0 - 0x80)
+unfolding sequence_scalar
+scalar_three bytes e = rw e refl
+
+scalar_four : (bytes : List ℕ) → sequence_len bytes ≡ 4 → sequence_scalar bytes ≡ (get_or bytes 0 0 - 0xF0) * 0x4_0000 + (get_or bytes 1 0 - 0x80) * 0x1000 + (get_or bytes 2 0 - 0x80) * 0x40 + (get_or bytes 3 0 - 0x80)
+unfolding sequence_scalar
+scalar_four bytes e = rw e refl
+
+-- a sequence of two bytes or more, whose scalar is one
+long_sequence : (mode : Mode) (bytes : List ℕ) (n : ℕ) → sequence_len bytes ≡ n → 2 ≤ n → n ≤ 4 → n ≤ length bytes → IsScalar (sequence_scalar bytes) → IsUnitOf bytes (scalar_at mode (sequence_scalar bytes) (sequence_len bytes))
+long_sequence mode bytes n e some most within s =
+    let few = encode_four (sequence_scalar bytes) in
+    record {
+      some = omega arith;
+      four = omega arith;
+      within = omega arith;
+      scalars = s;
+      short_text = omega (arith, few);
+    }
+
+low_three : (mode : Mode) (bytes : List ℕ) (low high second_low second_high : ℕ) → sequence_len bytes ≡ 3 → Three bytes low high second_low second_high
+    → 0xE0 ≤ low → 0x80 ≤ second_low → second_high ≤ 0xBF → high ≤ 0xED → (high ≤ 0xEC) ⊎ (second_high ≤ 0x9F) → IsUnitOf bytes (scalar_at mode (sequence_scalar bytes) (sequence_len bytes))
+low_three mode bytes low high second_low second_high e t a b c d (inl f) =
+    long_sequence mode bytes 3 e (omega arith) (omega arith) (omega (arith, t.third.within))
+    (scalar_low (sequence_scalar bytes) (rw (scalar_three bytes e) (omega arith)))
+low_three mode bytes low high second_low second_high e t a b c d (inr f) =
+    long_sequence mode bytes 3 e (omega arith) (omega arith) (omega (arith, t.third.within))
+    (scalar_low (sequence_scalar bytes) (rw (scalar_three bytes e) (omega arith)))
+
+high_three : (mode : Mode) (bytes : List ℕ) → sequence_len bytes ≡ 3 → Three bytes 0xEE 0xEF 0x80 0xBF → IsUnitOf bytes (scalar_at mode (sequence_scalar bytes) (sequence_len bytes))
+high_three mode bytes e t =
+    long_sequence mode bytes 3 e (omega arith) (omega arith) (omega (arith, t.third.within))
+    (scalar_high (sequence_scalar bytes)
+    (rw (scalar_three bytes e) (omega (arith, t.first.low_end, t.first.high_end, t.second.low_end, t.second.high_end, t.third.low_end, t.third.high_end)))
+    (rw (scalar_three bytes e) (omega (arith, t.first.low_end, t.first.high_end, t.second.low_end, t.second.high_end, t.third.low_end, t.third.high_end))))
+
+-- the number of four bytes, from below and from above
+four_low : (bytes : List ℕ) (low high second_low second_high : ℕ) → Four bytes low high second_low second_high → 0xF0 ≤ low → 0x80 ≤ second_low → (0xF1 ≤ low) ⊎ (0x90 ≤ second_low)
+    → 0xE000 ≤ (get_or bytes 0 0 - 0xF0) * 0x4_0000 + (get_or bytes 1 0 - 0x80) * 0x1000 + (get_or bytes 2 0 - 0x80) * 0x40 + (get_or bytes 3 0 - 0x80)
+four_low bytes low high second_low second_high t a c (inl f) = omega arith
+four_low bytes low high second_low second_high t a c (inr f) = omega arith
+
+four_high : (bytes : List ℕ) (low high second_low second_high : ℕ) → Four bytes low high second_low second_high → high ≤ 0xF4 → second_high ≤ 0xBF → (high ≤ 0xF3) ⊎ (second_high ≤ 0x8F)
+    → (get_or bytes 0 0 - 0xF0) * 0x4_0000 + (get_or bytes 1 0 - 0x80) * 0x1000 + (get_or bytes 2 0 - 0x80) * 0x40 + (get_or bytes 3 0 - 0x80) < 0x11_0000
+four_high bytes low high second_low second_high t b d (inl g) = omega arith
+four_high bytes low high second_low second_high t b d (inr g) = omega arith
+
+long_four : (mode : Mode) (bytes : List ℕ) (low high second_low second_high : ℕ) → sequence_len bytes ≡ 4 → Four bytes low high second_low second_high
+    → 0xF0 ≤ low → high ≤ 0xF4 → 0x80 ≤ second_low → second_high ≤ 0xBF → (0xF1 ≤ low) ⊎ (0x90 ≤ second_low) → (high ≤ 0xF3) ⊎ (second_high ≤ 0x8F) → IsUnitOf bytes (scalar_at mode (sequence_scalar bytes) (sequence_len bytes))
+long_four mode bytes low high second_low second_high e t a b c d f g =
+    long_sequence mode bytes 4 e (omega arith) (omega arith) (omega (arith, t.fourth.within))
+    (scalar_high (sequence_scalar bytes) (rw (scalar_four bytes e) (four_low bytes low high second_low second_high t a c f)) (rw (scalar_four bytes e) (four_high bytes low high second_low second_high t b d g)))
+
+-- where a sequence is at the front
+pub sequence_unit : (mode : Mode) (bytes : List ℕ) → Row bytes → 0 < sequence_len bytes → IsUnitOf bytes (scalar_at mode (sequence_scalar bytes) (sequence_len bytes))
+sequence_unit mode bytes (no_row e) h = absurd (omega arith)
+sequence_unit mode bytes (one e t) h =
+    let b = byte_at bytes 0 0x00 0x7F t in
+    let c : sequence_scalar bytes ≡ get_or bytes 0 0 = scalar_one bytes e in
+    let few = encode_one (sequence_scalar bytes) (omega (arith, b.high_end)) in
+    record {
+      some = omega arith;
+      four = omega arith;
+      within = omega (arith, b.within);
+      scalars = scalar_low (sequence_scalar bytes) (omega (arith, b.high_end));
+      short_text = omega (arith, few);
+    }
+sequence_unit mode bytes (two e t) h =
+    let p = and_parts (byte_in bytes 0 0xC2 0xDF) (is_tail_at bytes 1) t in
+    let first = byte_at bytes 0 0xC2 0xDF p.0 in
+    let second = byte_at bytes 1 0x80 0xBF p.1 in
+    long_sequence mode bytes 2 e (omega arith) (omega arith) (omega (arith, second.within))
+    (scalar_low (sequence_scalar bytes) (rw (scalar_two bytes e) (omega (arith, first.low_end, first.high_end, second.low_end, second.high_end))))
+sequence_unit mode bytes (three_e0 e t) h = low_three mode bytes 0xE0 0xE0 0xA0 0xBF e (three bytes 0xE0 0xE0 0xA0 0xBF t) (omega arith) (omega arith) (omega arith) (omega arith) (inl (omega arith))
+sequence_unit mode bytes (three_e1 e t) h = low_three mode bytes 0xE1 0xEC 0x80 0xBF e (three bytes 0xE1 0xEC 0x80 0xBF t) (omega arith) (omega arith) (omega arith) (omega arith) (inl (omega arith))
+sequence_unit mode bytes (three_ed e t) h = low_three mode bytes 0xED 0xED 0x80 0x9F e (three bytes 0xED 0xED 0x80 0x9F t) (omega arith) (omega arith) (omega arith) (omega arith) (inr (omega arith))
+sequence_unit mode bytes (three_ee e t) h = high_three mode bytes e (three bytes 0xEE 0xEF 0x80 0xBF t)
+sequence_unit mode bytes (four_f0 e t) h = long_four mode bytes 0xF0 0xF0 0x90 0xBF e (four bytes 0xF0 0xF0 0x90 0xBF t) (omega arith) (omega arith) (omega arith) (omega arith) (inr (omega arith)) (inl (omega arith))
+sequence_unit mode bytes (four_f1 e t) h = long_four mode bytes 0xF1 0xF3 0x80 0xBF e (four bytes 0xF1 0xF3 0x80 0xBF t) (omega arith) (omega arith) (omega arith) (omega arith) (inl (omega arith)) (inl (omega arith))
+sequence_unit mode bytes (four_f4 e t) h = long_four mode bytes 0xF4 0xF4 0x80 0x8F e (four bytes 0xF4 0xF4 0x80 0x8F t) (omega arith) (omega arith) (omega arith) (omega arith) (inl (omega arith)) (inr (omega arith))
+
+-- where none is
+malformed_some : (mode : Mode) (bytes : List ℕ) (n : ℕ) → malformed_len bytes ≡ n → 1 ≤ n → n ≤ 3 → n ≤ length bytes → IsUnitOf bytes (malformed_at mode (malformed_len bytes))
+malformed_some mode bytes n e some few within = record {
+  some = omega arith;
+  four = omega arith;
+  within = omega arith;
+  scalars = tt;
+  short_text = omega arith;
+}
+
+pair_two : (bytes : List ℕ) (low high second_low second_high : ℕ) → begins_pair bytes low high second_low second_high ≡ true → 2 ≤ length bytes
+pair_two bytes low high second_low second_high e = omega (arith, (both bytes low high second_low second_high e).1.within)
+
+four_two : (bytes : List ℕ) → two_of_four bytes ≡ true → 2 ≤ length bytes
+four_two bytes e =
+    ⊎_elim
+    (λ h. ⊎_elim (pair_two bytes 0xF0 0xF0 0x90 0xBF) (pair_two bytes 0xF1 0xF3 0x80 0xBF) (or_cases (begins_pair bytes 0xF0 0xF0 0x90 0xBF) (begins_pair bytes 0xF1 0xF3 0x80 0xBF) h))
+    (pair_two bytes 0xF4 0xF4 0x80 0x8F)
+    (or_cases (begins_pair bytes 0xF0 0xF0 0x90 0xBF || begins_pair bytes 0xF1 0xF3 0x80 0xBF) (begins_pair bytes 0xF4 0xF4 0x80 0x8F) e)
+
+three_two : (bytes : List ℕ) → two_of_three bytes ≡ true → 2 ≤ length bytes
+three_two bytes e =
+    let a = begins_pair bytes 0xE0 0xE0 0xA0 0xBF in
+    let b = begins_pair bytes 0xE1 0xEC 0x80 0xBF in
+    let c = begins_pair bytes 0xED 0xED 0x80 0x9F in
+    let d = begins_pair bytes 0xEE 0xEF 0x80 0xBF in
+    ⊎_elim
+    (λ h. ⊎_elim
+    (λ k. ⊎_elim (pair_two bytes 0xE0 0xE0 0xA0 0xBF) (pair_two bytes 0xE1 0xEC 0x80 0xBF) (or_cases a b k))
+    (pair_two bytes 0xED 0xED 0x80 0x9F) (or_cases (a || b) c h))
+    (pair_two bytes 0xEE 0xEF 0x80 0xBF) (or_cases ((a || b) || c) d e)
+
+malformed_unit : (mode : Mode) (bytes : List ℕ) → 0 < length bytes → IsUnitOf bytes (malformed_at mode (malformed_len bytes))
+unfolding malformed_len
+malformed_unit mode bytes some = by_tests (two_of_four bytes && is_tail_at bytes 2) refl (two_of_four bytes || two_of_three bytes) refl
+  where
+    by_tests : (s : Bool) → (two_of_four bytes && is_tail_at bytes 2) ≡ s → (t : Bool) → (two_of_four bytes || two_of_three bytes) ≡ t → IsUnitOf bytes (malformed_at mode (malformed_len bytes))
+    by_tests true e t f =
+        malformed_some mode bytes 3 (rw e refl) (omega arith) (omega arith)
+        (omega (arith, (byte_at bytes 2 0x80 0xBF (and_parts (two_of_four bytes) (is_tail_at bytes 2) e).1).within))
+    by_tests false e true f =
+        malformed_some mode bytes 2 (rw (e, f) refl) (omega arith) (omega arith)
+        (⊎_elim (four_two bytes) (three_two bytes) (or_cases (two_of_four bytes) (two_of_three bytes) f))
+    by_tests false e false f = malformed_some mode bytes 1 (rw (e, f) refl) (omega arith) (omega arith) (omega arith)
+
+-- the unit at the front
+each_unit : (mode : Mode) (bytes : List ℕ) → AreBytes bytes → 0 < length bytes → IsUnitOf bytes (utf8_unit mode bytes)
+unfolding utf8_unit
+each_unit mode bytes are some = by_test (eqb (sequence_len bytes) 0) refl
+  where
+    by_test : (t : Bool) → eqb (sequence_len bytes) 0 ≡ t → IsUnitOf bytes (utf8_unit mode bytes)
+    by_test true e = rw e (malformed_unit mode bytes some)
+    by_test false e =
+        let ne = eqb-false (sequence_len bytes) 0 e in
+        rw e (sequence_unit mode bytes (row_of bytes) (omega arith))
+
+-- the places of a list of four elements or more
+some_of_four : (n : ℕ) → (nat_lt 0 (suc (suc (suc (suc n)))) ≡ true) × (nat_lt 1 (suc (suc (suc (suc n)))) ≡ true) × (nat_lt 2 (suc (suc (suc (suc n)))) ≡ true) × (nat_lt 3 (suc (suc (suc (suc n)))) ≡ true)
+some_of_four n = (lt-ltb 0 (suc (suc (suc (suc n)))) (omega arith), lt-ltb 1 (suc (suc (suc (suc n)))) (omega arith), lt-ltb 2 (suc (suc (suc (suc n)))) (omega arith), lt-ltb 3 (suc (suc (suc (suc n)))) (omega arith))
+
+-- the first four bytes decide
+same_four : (mode : Mode) (x y : List ℕ) → 4 ≤ length x → 4 ≤ length y → take 4 x ≡ take 4 y → utf8_unit mode x ≡ utf8_unit mode y
+unfolding utf8_unit malformed_len sequence_len sequence_scalar
+same_four mode (a ∷ b ∷ c ∷ d ∷ xs) (s ∷ t ∷ u ∷ v ∷ ys) h k e =
+    let ea : a ≡ s = ap (λ l. get_or l 0 0) e in
+    let eb : b ≡ t = ap (λ l. get_or l 1 0) e in
+    let ec : c ≡ u = ap (λ l. get_or l 2 0) e in
+    let ed : d ≡ v = ap (λ l. get_or l 3 0) e in
+    let x_has = some_of_four (length xs) in
+    let y_has = some_of_four (length ys) in
+    rw (ea, eb, ec, ed, x_has.0, x_has.1, x_has.2, x_has.3, y_has.0, y_has.1, y_has.2, y_has.3) refl
+same_four mode (a ∷ b ∷ c ∷ []) y h k e = absurd (omega arith)
+same_four mode (a ∷ b ∷ []) y h k e = absurd (omega arith)
+same_four mode (a ∷ []) y h k e = absurd (omega arith)
+same_four mode [] y h k e = absurd (omega arith)
+same_four mode (a ∷ b ∷ c ∷ d ∷ xs) (s ∷ t ∷ u ∷ []) h k e = absurd (omega arith)
+same_four mode (a ∷ b ∷ c ∷ d ∷ xs) (s ∷ t ∷ []) h k e = absurd (omega arith)
+same_four mode (a ∷ b ∷ c ∷ d ∷ xs) (s ∷ []) h k e = absurd (omega arith)
+same_four mode (a ∷ b ∷ c ∷ d ∷ xs) [] h k e = absurd (omega arith)
+
+pub utf8_law : IsCode utf8_unit
+utf8_law = record {
+  each = each_unit;
+  first_four = λ mode a b are bre h k e. same_four mode a b h k e;
+}

@@ -1,0 +1,6 @@
+use Rattle.std.proofs.Common.{true}
+use Rattle.enc_drivers.proofs.Utf16Lemmas.{utf16_law}
+use Rattle.enc_drivers.proofs.laws.utf_16be.Goals as goal
+
+pub returns : goal.returns
+returns c = utf16_law true

@@ -1,0 +1,5 @@
+use Rattle.enc_drivers.proofs.Utf8Lemmas.{utf8_law}
+use Rattle.enc_drivers.proofs.laws.utf_8.Goals as goal
+
+pub returns : goal.returns
+returns c = utf8_law

@@ -1,0 +1,5 @@
+use Rattle.enc_drivers.proofs.SingleByteLemmas.{windows_1252_law}
+use Rattle.enc_drivers.proofs.laws.windows_1252.Goals as goal
+
+pub returns : goal.returns
+returns c = windows_1252_law

@@ -1,0 +1,5 @@
+use Rattle.enc_drivers.proofs.SingleByteLemmas.{user_defined_law}
+use Rattle.enc_drivers.proofs.laws.x_user_defined.Goals as goal
+
+pub returns : goal.returns
+returns c = user_defined_law

@@ -1,0 +1,4 @@
+pub mod SingleByte
+pub mod Units
+pub mod Utf16
+pub mod Utf8

@@ -1,0 +1,37 @@
+-- The units of UTF-8 (Encoding Standard, section 8.1.1, UTF-8 decoder; the Unicode Standard, table 3-7).
+use Rattle.std.specs.Prelude.{ℕ, Bool, ◌==◌, ◌&&◌, ◌||◌, if◌then◌else◌, List}
+use Rattle.enc_handles.specs.Utf8.{byte_in, is_tail_at, sequence_len, sequence_scalar}
+use Rattle.enc_drivers.specs.declared.Mode.{Mode}
+use Rattle.enc_drivers.specs.Units.{UnitAt, scalar_at, malformed_at}
+
+-- the first two bytes of a row of the table
+abbrev pub begins_pair : List ℕ → ℕ → ℕ → ℕ → ℕ → Bool
+begins_pair bytes low high second_low second_high = byte_in bytes 0 low high && byte_in bytes 1 second_low second_high
+
+-- the first two bytes of a sequence of three
+abbrev pub two_of_three : List ℕ → Bool
+two_of_three bytes =
+    begins_pair bytes 0xE0 0xE0 0xA0 0xBF
+    || begins_pair bytes 0xE1 0xEC 0x80 0xBF
+    || begins_pair bytes 0xED 0xED 0x80 0x9F
+    || begins_pair bytes 0xEE 0xEF 0x80 0xBF
+
+-- the first two bytes of a sequence of four
+abbrev pub two_of_four : List ℕ → Bool
+two_of_four bytes =
+    begins_pair bytes 0xF0 0xF0 0x90 0xBF
+    || begins_pair bytes 0xF1 0xF3 0x80 0xBF
+    || begins_pair bytes 0xF4 0xF4 0x80 0x8F
+
+-- where no sequence stands at the front: how many bytes at the front begin one, and at least one
+unfoldable pub malformed_len : List ℕ → ℕ
+malformed_len bytes =
+    if two_of_four bytes && is_tail_at bytes 2 then 3
+    else (if two_of_four bytes || two_of_three bytes then 2
+    else 1)
+
+-- the scalar of the well-formed sequence at the front, or one malformed unit
+unfoldable pub utf8_unit : Mode → List ℕ → UnitAt
+utf8_unit mode rest =
+    if sequence_len rest == 0 then malformed_at mode (malformed_len rest)
+    else scalar_at mode (sequence_scalar rest) (sequence_len rest)

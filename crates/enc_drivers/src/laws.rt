@@ -1,0 +1,54 @@
+//! Laws of units. Each function's contract is a law; it does nothing.
+
+ghost use Rattle.std.specs.Prelude.{◌≡◌, ℕ, ◌*◌, ◌<◌, ◌≤◌, true, false, List, [], ◌∷◌, length, drop};
+ghost use Rattle.std.specs.List.{sum_by};
+ghost use Rattle.enc_drivers.specs.declared.Mode.{Mode};
+ghost use Rattle.enc_drivers.specs.Units.{Code, IsCode, AreBytes, units, text};
+ghost use Rattle.enc_drivers.specs.Utf8.{utf8_unit};
+ghost use Rattle.enc_drivers.specs.Utf16.{utf16_unit};
+ghost use Rattle.enc_drivers.specs.SingleByte.{windows_1252_unit, user_defined_unit};
+
+/// A unit of UTF-8 has one to four bytes, its text at most three bytes for each, and the first four bytes
+/// of a rest decide it.
+pub fn utf_8()
+    ensures { IsCode utf8_unit }
+{}
+
+/// The same of UTF-16BE.
+pub fn utf_16be()
+    ensures { IsCode (utf16_unit true) }
+{}
+
+/// The same of UTF-16LE.
+pub fn utf_16le()
+    ensures { IsCode (utf16_unit false) }
+{}
+
+/// The same of windows-1252.
+pub fn windows_1252()
+    ensures { IsCode windows_1252_unit }
+{}
+
+/// The same of x-user-defined.
+pub fn x_user_defined()
+    ensures { IsCode user_defined_unit }
+{}
+
+/// The units of bytes are the unit at their front, and then the units of what follows it, in the next mode.
+pub fn units_in_order()
+    ensures none { (unit : Code) (mode : Mode) → units unit mode [] ≡ [] }
+    ensures some { (unit : Code) → IsCode unit → (mode : Mode) (bytes : List ℕ) → AreBytes bytes → 0 < length bytes →
+        let u = unit mode bytes in units unit mode bytes ≡ (u.item, u.len) ∷ units unit u.next (drop u.len bytes) }
+{}
+
+/// The units of bytes cover them: no byte is in none of them, or in two.
+pub fn units_cover()
+    ensures { (unit : Code) → IsCode unit → (mode : Mode) (bytes : List ℕ) → AreBytes bytes →
+        sum_by (λ u. u.1) (units unit mode bytes) ≡ length bytes }
+{}
+
+/// The text of bytes has at most three bytes for each of them.
+pub fn short_text()
+    ensures { (unit : Code) → IsCode unit → (mode : Mode) (bytes : List ℕ) → AreBytes bytes →
+        length (text (units unit mode bytes)) ≤ 3 * length bytes }
+{}

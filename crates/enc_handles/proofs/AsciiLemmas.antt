@@ -1,0 +1,57 @@
+-- The ASCII at the front of a list, its text, and the byte behind it.
+use Rattle.std.proofs.Common.{◌≡◌, ℕ, ◌+◌, ◌-◌, ◌<◌, ◌≤◌, Bool, true, false, ltb, cond, List, [], ◌∷◌, ◌++◌, length, take, get_or, refl, ap, suc, zero, sym, ◌∙◌, arith, add-one, add-one-le, length-take, min}
+use Rattle.std.proofs.lemmas.Bool.Decides.{nat_tests}
+use Rattle.std.specs.Borrow.{GName}
+use Rattle.std.specs.List.{flat_map}
+use Rattle.enc_handles.specs.Ascii.{ascii_len, moved_len, moved_text}
+use Rattle.enc_handles.specs.UnitSlice.{Puts}
+use Rattle.enc_handles.specs.Writing.{Writing, after_writing}
+
+pub ascii_len_le : (bytes : List ℕ) → ascii_len bytes ≤ length bytes
+ascii_len_le [] = omega arith
+ascii_len_le (b ∷ bs) = let h = ascii_len_le bs in grind (arith, nat_tests)
+
+past_at : (b : ℕ) (bs : List ℕ) → (ascii_len bs < length bs → 0x80 ≤ get_or bs (ascii_len bs) 0)
+    → (t : Bool) → ltb b 0x80 ≡ t → cond t (ascii_len bs + 1) 0 < suc (length bs) → 0x80 ≤ get_or (b ∷ bs) (cond t (ascii_len bs + 1) 0) 0
+past_at b bs rest true e h = rw add-one (rest (omega arith))
+past_at b bs rest false e h = grind (arith, nat_tests)
+
+-- the byte behind the ASCII is past it
+pub ascii_len-past : (bytes : List ℕ) → ascii_len bytes < length bytes → 0x80 ≤ get_or bytes (ascii_len bytes) 0
+ascii_len-past [] h = absurd (omega arith)
+ascii_len-past (b ∷ bs) h = past_at b bs (ascii_len-past bs) (ltb b 0x80) refl h
+
+text_at : (encode : ℕ → List ℕ) → ((c : ℕ) → c < 0x80 → encode c ≡ c ∷ []) → (b : ℕ) (bs : List ℕ) (n : ℕ)
+    → (n ≤ ascii_len bs → flat_map encode (take n bs) ≡ take n bs)
+    → (t : Bool) → ltb b 0x80 ≡ t → suc n ≤ cond t (ascii_len bs + 1) 0 → encode b ++ flat_map encode (take n bs) ≡ b ∷ take n bs
+text_at encode law b bs n rest true e h =
+    let low : b < 0x80 = grind (arith, nat_tests) in
+    rw (law b low) (ap (λ (l : List ℕ). b ∷ l) (rest (omega arith)))
+text_at encode law b bs n rest false e h = absurd (omega arith)
+
+-- the text of ASCII is the ASCII
+pub flat_map-ascii : (encode : ℕ → List ℕ) → ((c : ℕ) → c < 0x80 → encode c ≡ c ∷ []) → (bytes : List ℕ) (n : ℕ)
+    → n ≤ ascii_len bytes → flat_map encode (take n bytes) ≡ take n bytes
+flat_map-ascii encode law bytes zero h = refl
+flat_map-ascii encode law [] (suc n) h = refl
+flat_map-ascii encode law (b ∷ bs) (suc n) h =
+    text_at encode law b bs n (flat_map-ascii encode law bs n) (ltb b 0x80) refl h
+
+pub moved_len_le : (bytes : List ℕ) (room : ℕ) → moved_len bytes room ≤ length bytes
+moved_len_le bytes room = omega (arith, ascii_len_le bytes)
+
+pub length-take-moved_len : (bytes : List ℕ) (room : ℕ) → length (take (moved_len bytes room) bytes) ≡ moved_len bytes room
+length-take-moved_len bytes room = omega (arith, length-take (moved_len bytes room) bytes, ascii_len_le bytes)
+
+pub moved_text-ascii : (encode : ℕ → List ℕ) → ((c : ℕ) → c < 0x80 → encode c ≡ c ∷ []) → (bytes : List ℕ) (room : ℕ)
+    → moved_text encode bytes room ≡ take (moved_len bytes room) bytes
+moved_text-ascii encode law bytes room = flat_map-ascii encode law bytes (moved_len bytes room) (omega arith)
+
+-- what a destination is after a write behind its text
+pub written : (old new xs ys : List ℕ) (at end : ℕ) (b b' : GName) → Puts old new at xs → end ≡ at + length xs → b' ≡ b → xs ≡ ys
+    → ◌≡◌ {A = Writing} (record { text = take end new; free = length new - end; buffer = b' })
+    (after_writing (record { text = take at old; free = length old - at; buffer = b }) ys)
+written old new xs ys at end b b' puts ends same text =
+    let front : take end new ≡ take at old ++ ys = rw (ends, ← text) puts.front in
+    let free : length new - end ≡ (length old - at) - length ys = rw (← text) (omega (arith, puts.same_length)) in
+    cc

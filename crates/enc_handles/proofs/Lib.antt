@@ -1,0 +1,4 @@
+pub mod AsciiLemmas
+pub mod CodeUnits
+pub mod LoopLemmas
+pub mod TextLemmas

@@ -1,0 +1,10 @@
+use Rattle.std.proofs.Common.{arith}
+use Rattle.enc_handles.proofs.TextLemmas.{encode_three, Puts-append}
+use Rattle.enc_handles.proofs.unit_slice.put_three.Goals as goal
+
+pub returns-clause-text : goal.returns-clause-text
+returns-clause-text c =
+    rw (encode_three c.args.code c.requires.low c.requires.high)
+    (Puts-append _ _ _ _ _ _ _
+    (Puts-append _ _ _ _ _ _ _ c.put_byte-at.ensures.text c.put_byte-at.ensures.end c.put_byte-at-2.ensures.text)
+    (omega arith) c.put_byte.ensures.text)

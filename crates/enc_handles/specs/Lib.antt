@@ -1,0 +1,13 @@
+pub mod Ascii
+pub mod ByteSource
+pub mod Destination
+pub mod Latin
+pub mod Reading
+pub mod Room
+pub mod Rooms
+pub mod Space
+pub mod UnitSlice
+pub mod Unaligned
+pub mod Utf16
+pub mod Utf8
+pub mod Writing

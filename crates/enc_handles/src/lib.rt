@@ -1,0 +1,16 @@
+//! Sources, destinations and room handles.
+#![tactic(auto)]
+
+pub mod byte_slice;
+pub mod byte_source;
+pub mod destination;
+pub mod endian;
+#[cfg(test)]
+mod pattern;
+pub mod results;
+pub mod room;
+pub mod space;
+#[cfg(test)]
+mod tests;
+pub mod unaligned;
+pub mod unit_slice;

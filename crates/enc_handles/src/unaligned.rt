@@ -1,0 +1,106 @@
+//! Code units that lie in bytes at any place.
+ghost use Rattle.std.specs.Prelude.{◌≡◌, ◌+◌, ◌-◌, ◌*◌, ◌<◌, ◌≤◌, ◌↔◌, length, take, drop, slice_index, false, Bool, IsSome, IfSome};
+ghost use Rattle.enc_handles.specs.Utf16.{code_units, is_surrogate, bmp_len};
+
+use crate::endian::Endian;
+
+/// So many 16-bit code units in the bytes of a slice, which may begin at any place.
+#[derive(Clone, Copy)]
+pub struct UnalignedU16Slice<'a> {
+    bytes: &'a [u8],
+    len: usize,
+    ghost fits: { 2 * len ≤ length bytes.now },
+}
+
+impl<'a> UnalignedU16Slice<'a> {
+    ghost use Rattle.enc_handles.specs.Unaligned.{units_in};
+
+    /// The first `len` code units of the bytes.
+    pub fn new(bytes: &'a [u8], len: usize) -> UnalignedU16Slice<'a>
+        requires { 2 * len ≤ length bytes.now }
+        ensures { (big : Bool) → units_in big result ≡ take len (code_units big bytes.now) }
+    {
+        UnalignedU16Slice { bytes, len }
+    }
+
+    /// How many code units there are.
+    pub fn len(&self) -> usize
+        ensures { (big : Bool) → result ≡ length (units_in big self.now) }
+    {
+        self.len
+    }
+
+    /// Leaves the last code unit out.
+    pub fn trim_last(&mut self)
+        requires { 0 < length (units_in false self.old) }
+        ensures { (big : Bool) → units_in big self.new
+            ≡ take (length (units_in big self.old) - 1) (units_in big self.old) }
+    {
+        self.len -= 1;
+    }
+
+    /// The code unit at `i`, in the machine's order, the less significant byte first.
+    pub fn at(&self, i: usize) -> u16
+        requires { i < length (units_in false self.now) }
+        ensures { result ≡ slice_index (units_in false self.now) i }
+    {
+        u16::from(self.bytes[2 * i]) + u16::from(self.bytes[2 * i + 1]) * 0x100
+    }
+
+    /// The code units from `from` on.
+    pub fn tail(&self, from: usize) -> UnalignedU16Slice<'a>
+        requires { from ≤ length (units_in false self.now) }
+        ensures { (big : Bool) → units_in big result ≡ drop from (units_in big self.now) }
+    {
+        UnalignedU16Slice {
+            bytes: &self.bytes[2 * from..],
+            len: self.len - from,
+        }
+    }
+
+    // The code unit at `i` in the order of `E`.
+    pub(crate) fn unit<E: Endian>(&self, i: usize) -> u16
+        requires { i < length (units_in E.OPPOSITE_ENDIAN self.now) }
+        ensures { result ≡ slice_index (units_in E.OPPOSITE_ENDIAN self.now) i }
+    {
+        let first = u16::from(self.bytes[2 * i]);
+        let second = u16::from(self.bytes[2 * i + 1]);
+        if E::OPPOSITE_ENDIAN {
+            first * 0x100 + second
+        } else {
+            second * 0x100 + first
+        }
+    }
+
+    /// Copies up to the first surrogate and answers it with its place, or `None` where there is none. What
+    /// `other` has from that place to the length of this slice is left open; what it has from there on stays.
+    pub fn copy_bmp_to<E: Endian>(&self, other: &mut [u16]) -> Option<(u16, usize)>
+        requires { length (units_in E.OPPOSITE_ENDIAN self.now) ≤ length other.old }
+        ensures found { IsSome result
+            ↔ (bmp_len (units_in E.OPPOSITE_ENDIAN self.now) < length (units_in E.OPPOSITE_ENDIAN self.now)) }
+        ensures surrogate { IfSome result (λ found. found.0
+            ≡ slice_index (units_in E.OPPOSITE_ENDIAN self.now) (bmp_len (units_in E.OPPOSITE_ENDIAN self.now))) }
+        ensures place { IfSome result (λ found. found.1 ≡ bmp_len (units_in E.OPPOSITE_ENDIAN self.now)) }
+        ensures copied { take (bmp_len (units_in E.OPPOSITE_ENDIAN self.now)) other.new
+            ≡ take (bmp_len (units_in E.OPPOSITE_ENDIAN self.now)) (units_in E.OPPOSITE_ENDIAN self.now) }
+        ensures stays { drop (length (units_in E.OPPOSITE_ENDIAN self.now)) other.new
+            ≡ drop (length (units_in E.OPPOSITE_ENDIAN self.now)) other.old }
+    {
+        let count = self.len();
+        for i in 0..count {
+            let unit = self.unit::<E>(i);
+            if is_surrogate(unit) {
+                return Some((unit, i));
+            }
+            other[i] = unit;
+        }
+        None
+    }
+}
+
+// Whether a code unit is a surrogate.
+pub(crate) fn is_surrogate(unit: u16) -> bool
+    ensures { result ≡ is_surrogate unit }
+{
+    0xD800 <= unit && unit <= 0xDFFF
+}
