@@ -25,9 +25,21 @@ byte_at bytes k low high e =
       high_end = leb-true (get_or bytes k 0) high q.1;
     }
 
+-- no row of the table begins the bytes
+pub record NoRow (bytes : List ℕ) : Type 0 where
+  pub not_one : (byte_in bytes 0 0x00 0x7F) ≡ false
+  pub not_two : (begins_two bytes 0xC2 0xDF) ≡ false
+  pub not_three_e0 : (begins_three bytes 0xE0 0xE0 0xA0 0xBF) ≡ false
+  pub not_three_e1 : (begins_three bytes 0xE1 0xEC 0x80 0xBF) ≡ false
+  pub not_three_ed : (begins_three bytes 0xED 0xED 0x80 0x9F) ≡ false
+  pub not_three_ee : (begins_three bytes 0xEE 0xEF 0x80 0xBF) ≡ false
+  pub not_four_f0 : (begins_four bytes 0xF0 0xF0 0x90 0xBF) ≡ false
+  pub not_four_f1 : (begins_four bytes 0xF1 0xF3 0x80 0xBF) ≡ false
+  pub not_four_f4 : (begins_four bytes 0xF4 0xF4 0x80 0x8F) ≡ false
+
 -- the row of the table that the bytes begin with
 pub data Row (bytes : List ℕ) : Type 0 where
-  no_row : sequence_len bytes ≡ 0 → Row bytes
+  no_row : sequence_len bytes ≡ 0 → NoRow bytes → Row bytes
   one : sequence_len bytes ≡ 1 → (byte_in bytes 0 0x00 0x7F) ≡ true → Row bytes
   two : sequence_len bytes ≡ 2 → (begins_two bytes 0xC2 0xDF) ≡ true → Row bytes
   three_e0 : sequence_len bytes ≡ 3 → (begins_three bytes 0xE0 0xE0 0xA0 0xBF) ≡ true → Row bytes
@@ -42,7 +54,7 @@ module _ (bytes : List ℕ) where
   at_four_f4 : (byte_in bytes 0 0x00 0x7F) ≡ false → (begins_two bytes 0xC2 0xDF) ≡ false → (begins_three bytes 0xE0 0xE0 0xA0 0xBF) ≡ false → (begins_three bytes 0xE1 0xEC 0x80 0xBF) ≡ false → (begins_three bytes 0xED 0xED 0x80 0x9F) ≡ false → (begins_three bytes 0xEE 0xEF 0x80 0xBF) ≡ false → (begins_four bytes 0xF0 0xF0 0x90 0xBF) ≡ false → (begins_four bytes 0xF1 0xF3 0x80 0xBF) ≡ false → (b : Bool) → (begins_four bytes 0xF4 0xF4 0x80 0x8F) ≡ b → Row bytes
   unfolding sequence_len
   at_four_f4 e0 e1 e2 e3 e4 e5 e6 e7 true e = four_f4 (rw (e0, e1, e2, e3, e4, e5, e6, e7, e) refl) e
-  at_four_f4 e0 e1 e2 e3 e4 e5 e6 e7 false e = no_row (rw (e0, e1, e2, e3, e4, e5, e6, e7, e) refl)
+  at_four_f4 e0 e1 e2 e3 e4 e5 e6 e7 false e = no_row (rw (e0, e1, e2, e3, e4, e5, e6, e7, e) refl) (record { not_one = e0; not_two = e1; not_three_e0 = e2; not_three_e1 = e3; not_three_ed = e4; not_three_ee = e5; not_four_f0 = e6; not_four_f1 = e7; not_four_f4 = e })
 
   at_four_f1 : (byte_in bytes 0 0x00 0x7F) ≡ false → (begins_two bytes 0xC2 0xDF) ≡ false → (begins_three bytes 0xE0 0xE0 0xA0 0xBF) ≡ false → (begins_three bytes 0xE1 0xEC 0x80 0xBF) ≡ false → (begins_three bytes 0xED 0xED 0x80 0x9F) ≡ false → (begins_three bytes 0xEE 0xEF 0x80 0xBF) ≡ false → (begins_four bytes 0xF0 0xF0 0x90 0xBF) ≡ false → (b : Bool) → (begins_four bytes 0xF1 0xF3 0x80 0xBF) ≡ b → Row bytes
   unfolding sequence_len
@@ -88,7 +100,7 @@ module _ (bytes : List ℕ) where
   row_of = at_one (byte_in bytes 0 0x00 0x7F) refl
 
 -- the bytes of the rows
-both : (bytes : List ℕ) (low high second_low second_high : ℕ) → begins_pair bytes low high second_low second_high ≡ true → ByteAt bytes 0 low high × ByteAt bytes 1 second_low second_high
+pub both : (bytes : List ℕ) (low high second_low second_high : ℕ) → begins_pair bytes low high second_low second_high ≡ true → ByteAt bytes 0 low high × ByteAt bytes 1 second_low second_high
 both bytes low high second_low second_high e =
     let p = and_parts (byte_in bytes 0 low high) (byte_in bytes 1 second_low second_high) e in
     (byte_at bytes 0 low high p.0, byte_at bytes 1 second_low second_high p.1)
@@ -98,7 +110,7 @@ pub record Three (bytes : List ℕ) (low high second_low second_high : ℕ) : Ty
   pub second : ByteAt bytes 1 second_low second_high
   pub third : ByteAt bytes 2 0x80 0xBF
 
-three : (bytes : List ℕ) (low high second_low second_high : ℕ) → begins_three bytes low high second_low second_high ≡ true → Three bytes low high second_low second_high
+pub three : (bytes : List ℕ) (low high second_low second_high : ℕ) → begins_three bytes low high second_low second_high ≡ true → Three bytes low high second_low second_high
 three bytes low high second_low second_high e =
     let p = and_parts (byte_in bytes 0 low high) (byte_in bytes 1 second_low second_high && is_tail_at bytes 2) e in
     let q = and_parts (byte_in bytes 1 second_low second_high) (is_tail_at bytes 2) p.1 in
@@ -112,7 +124,7 @@ pub record Four (bytes : List ℕ) (low high second_low second_high : ℕ) : Typ
   pub three : Three bytes low high second_low second_high
   pub fourth : ByteAt bytes 3 0x80 0xBF
 
-four : (bytes : List ℕ) (low high second_low second_high : ℕ) → begins_four bytes low high second_low second_high ≡ true → Four bytes low high second_low second_high
+pub four : (bytes : List ℕ) (low high second_low second_high : ℕ) → begins_four bytes low high second_low second_high ≡ true → Four bytes low high second_low second_high
 four bytes low high second_low second_high e =
     let p = and_parts (byte_in bytes 0 low high) (byte_in bytes 1 second_low second_high && (is_tail_at bytes 2 && is_tail_at bytes 3)) e in
     let q = and_parts (byte_in bytes 1 second_low second_high) (is_tail_at bytes 2 && is_tail_at bytes 3) p.1 in
@@ -127,19 +139,19 @@ four bytes low high second_low second_high e =
     }
 
 -- the scalar by the sequence's length
-scalar_one : (bytes : List ℕ) → sequence_len bytes ≡ 1 → sequence_scalar bytes ≡ get_or bytes 0 0
+pub scalar_one : (bytes : List ℕ) → sequence_len bytes ≡ 1 → sequence_scalar bytes ≡ get_or bytes 0 0
 unfolding sequence_scalar
 scalar_one bytes e = rw e refl
 
-scalar_two : (bytes : List ℕ) → sequence_len bytes ≡ 2 → sequence_scalar bytes ≡ (get_or bytes 0 0 - 0xC0) * 0x40 + (get_or bytes 1 0 - 0x80)
+pub scalar_two : (bytes : List ℕ) → sequence_len bytes ≡ 2 → sequence_scalar bytes ≡ (get_or bytes 0 0 - 0xC0) * 0x40 + (get_or bytes 1 0 - 0x80)
 unfolding sequence_scalar
 scalar_two bytes e = rw e refl
 
-scalar_three : (bytes : List ℕ) → sequence_len bytes ≡ 3 → sequence_scalar bytes ≡ (get_or bytes 0 0 - 0xE0) * 0x1000 + (get_or bytes 1 0 - 0x80) * 0x40 + (get_or bytes 2 0 - 0x80)
+pub scalar_three : (bytes : List ℕ) → sequence_len bytes ≡ 3 → sequence_scalar bytes ≡ (get_or bytes 0 0 - 0xE0) * 0x1000 + (get_or bytes 1 0 - 0x80) * 0x40 + (get_or bytes 2 0 - 0x80)
 unfolding sequence_scalar
 scalar_three bytes e = rw e refl
 
-scalar_four : (bytes : List ℕ) → sequence_len bytes ≡ 4 → sequence_scalar bytes ≡ (get_or bytes 0 0 - 0xF0) * 0x4_0000 + (get_or bytes 1 0 - 0x80) * 0x1000 + (get_or bytes 2 0 - 0x80) * 0x40 + (get_or bytes 3 0 - 0x80)
+pub scalar_four : (bytes : List ℕ) → sequence_len bytes ≡ 4 → sequence_scalar bytes ≡ (get_or bytes 0 0 - 0xF0) * 0x4_0000 + (get_or bytes 1 0 - 0x80) * 0x1000 + (get_or bytes 2 0 - 0x80) * 0x40 + (get_or bytes 3 0 - 0x80)
 unfolding sequence_scalar
 scalar_four bytes e = rw e refl
 
@@ -190,7 +202,7 @@ long_four mode bytes low high second_low second_high e t a b c d f g =
 
 -- where a sequence is at the front
 pub sequence_unit : (mode : Mode) (bytes : List ℕ) → Row bytes → 0 < sequence_len bytes → IsUnitOf bytes (scalar_at mode (sequence_scalar bytes) (sequence_len bytes))
-sequence_unit mode bytes (no_row e) h = absurd (omega arith)
+sequence_unit mode bytes (no_row e none) h = absurd (omega arith)
 sequence_unit mode bytes (one e t) h =
     let b = byte_at bytes 0 0x00 0x7F t in
     let c : sequence_scalar bytes ≡ get_or bytes 0 0 = scalar_one bytes e in

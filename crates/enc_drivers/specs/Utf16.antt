@@ -1,5 +1,7 @@
 -- The units of UTF-16, big-endian where big is true (Encoding Standard, section 14.2.1, shared UTF-16 decoder).
-use Rattle.std.specs.Prelude.{ℕ, Bool, ◌&&◌, if◌then◌else◌, List, [], ◌∷◌}
+use Rattle.std.specs.Prelude.{ℕ, ◌/◌, ◌%◌, Bool, ◌&&◌, if◌then◌else◌, List, [], ◌∷◌}
+use Rattle.std.specs.List.{flat_map}
+use Rattle.std.specs.Char.Escape.{encode_utf16}
 use Rattle.enc_handles.specs.Utf16.{code_unit, is_lead, is_trail, pair_scalar}
 use Rattle.enc_drivers.specs.declared.Mode.{Mode}
 use Rattle.enc_drivers.specs.Units.{UnitAt, scalar_at, malformed_at}
@@ -23,3 +25,11 @@ utf16_unit big mode (a ∷ b ∷ c ∷ d ∷ rest) =
     let second = code_unit big c d in
     if is_lead first && is_trail second then scalar_at mode (pair_scalar first second) 4
     else (if is_lead first then malformed_at mode 2 else single_unit mode first)
+
+-- the two bytes of a code unit
+abbrev pub unit_bytes : Bool → ℕ → List ℕ
+unit_bytes big unit = if big then unit / 0x100 ∷ unit % 0x100 ∷ [] else unit % 0x100 ∷ unit / 0x100 ∷ []
+
+-- the bytes of a scalar in UTF-16 (Infra Standard, section 4.6, and the Unicode Standard, section 3.9)
+unfoldable pub scalar_bytes : Bool → ℕ → List ℕ
+scalar_bytes big scalar = flat_map (unit_bytes big) (encode_utf16 scalar)

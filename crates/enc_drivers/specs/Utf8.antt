@@ -1,5 +1,5 @@
 -- The units of UTF-8 (Encoding Standard, section 8.1.1, UTF-8 decoder; the Unicode Standard, table 3-7).
-use Rattle.std.specs.Prelude.{ℕ, Bool, ◌==◌, ◌&&◌, ◌||◌, if◌then◌else◌, List}
+use Rattle.std.specs.Prelude.{ℕ, ◌<◌, ◌≤◌, Bool, ◌==◌, ◌&&◌, ◌||◌, if◌then◌else◌, List, ◌++◌, length, take}
 use Rattle.enc_handles.specs.Utf8.{byte_in, is_tail_at, sequence_len, sequence_scalar}
 use Rattle.enc_drivers.specs.declared.Mode.{Mode}
 use Rattle.enc_drivers.specs.Units.{UnitAt, scalar_at, malformed_at}
@@ -35,3 +35,12 @@ unfoldable pub utf8_unit : Mode → List ℕ → UnitAt
 utf8_unit mode rest =
     if sequence_len rest == 0 then malformed_at mode (malformed_len rest)
     else scalar_at mode (sequence_scalar rest) (sequence_len rest)
+
+-- n bytes at the front are a front of some well-formed sequence: with some bytes behind them they begin one that is no shorter
+abbrev pub BeginsSequence : List ℕ → ℕ → Type 0
+BeginsSequence bytes n = (n ≤ length bytes) × ((more : List ℕ) × (n ≤ sequence_len (take n bytes ++ more)))
+
+-- of more than one byte, n is the greatest number that begin a sequence
+pub record IsLongestBegun (bytes : List ℕ) (n : ℕ) : Type 0 where
+  pub begun : 1 < n → BeginsSequence bytes n
+  pub longest : (k : ℕ) → n < k → ¬ BeginsSequence bytes k

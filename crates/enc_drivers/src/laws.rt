@@ -1,11 +1,13 @@
 //! Laws of units. Each function's contract is a law; it does nothing.
 
-ghost use Rattle.std.specs.Prelude.{◌≡◌, ℕ, ◌*◌, ◌<◌, ◌≤◌, true, false, List, [], ◌∷◌, length, drop};
+ghost use Rattle.std.specs.Prelude.{◌≡◌, ℕ, ◌*◌, ◌<◌, ◌≤◌, Bool, true, false, List, [], ◌∷◌, ◌++◌, length, drop, encode_utf8};
+ghost use Rattle.std.specs.Char.{IsScalar};
 ghost use Rattle.std.specs.List.{sum_by};
 ghost use Rattle.enc_drivers.specs.declared.Mode.{Mode};
-ghost use Rattle.enc_drivers.specs.Units.{Code, IsCode, AreBytes, units, text};
-ghost use Rattle.enc_drivers.specs.Utf8.{utf8_unit};
-ghost use Rattle.enc_drivers.specs.Utf16.{utf16_unit};
+ghost use Rattle.enc_drivers.specs.Units.{Code, IsCode, AreBytes, units, text, scalar_at};
+ghost use Rattle.enc_drivers.specs.Utf8.{utf8_unit, malformed_len, IsLongestBegun};
+ghost use Rattle.enc_handles.specs.Utf8.{sequence_len};
+ghost use Rattle.enc_drivers.specs.Utf16.{utf16_unit, scalar_bytes};
 ghost use Rattle.enc_drivers.specs.SingleByte.{windows_1252_unit, user_defined_unit};
 
 /// A unit of UTF-8 has one to four bytes, its text at most three bytes for each, and the first four bytes
@@ -51,4 +53,23 @@ pub fn units_cover()
 pub fn short_text()
     ensures { (unit : Code) → IsCode unit → (mode : Mode) (bytes : List ℕ) → AreBytes bytes →
         length (text (units unit mode bytes)) ≤ 3 * length bytes }
+{}
+
+/// What UTF-8 writes of a scalar is read as that scalar, whatever follows: the sequences of the table are
+/// the UTF-8 of the scalars.
+pub fn utf_8_of_scalars()
+    ensures { (mode : Mode) (scalar : ℕ) (rest : List ℕ) → IsScalar scalar →
+        utf8_unit mode (encode_utf8 scalar ++ rest) ≡ scalar_at mode scalar (length (encode_utf8 scalar)) }
+{}
+
+/// What UTF-16, of either byte order, writes of a scalar is read as that scalar, whatever follows.
+pub fn utf_16_of_scalars()
+    ensures { (big : Bool) (mode : Mode) (scalar : ℕ) (rest : List ℕ) → IsScalar scalar →
+        utf16_unit big mode (scalar_bytes big scalar ++ rest) ≡ scalar_at mode scalar (length (scalar_bytes big scalar)) }
+{}
+
+/// A malformed unit of UTF-8 covers the longest front of the rest that begins some well-formed sequence,
+/// and at least one byte.
+pub fn utf_8_malformed()
+    ensures { (bytes : List ℕ) → 0 < length bytes → sequence_len bytes ≡ 0 → IsLongestBegun bytes (malformed_len bytes) }
 {}

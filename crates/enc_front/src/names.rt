@@ -2,7 +2,7 @@
 
 ghost use Rattle.std.specs.Prelude.{◌≡◌, ◌≤◌, find, length, IfSome, IsTrue};
 ghost use Rattle.std.specs.Str.{str_eq_ignore_ascii_case};
-ghost use Rattle.enc_front.specs.Names.{name_text, labels_text, has_label, label as encoding_of};
+ghost use Rattle.enc_front.specs.Names.{name_text, labels_text, has_label, label as encoding_labelled};
 ghost use Rattle.enc_front.specs.Marks.{mark};
 ghost use Rattle.enc_front.specs.Indexes.{is_built_in};
 
@@ -122,7 +122,7 @@ impl Encoding {
     /// The encoding with this label, without regard to ASCII white space at its ends (tab, LF, FF, CR,
     /// space) and to ASCII case; none for an unknown label (Encoding Standard, section 4.2).
     pub fn for_label(label: &[u8]) -> Option<Encoding>
-        ensures { result ≡ encoding_of label.now }
+        ensures { result ≡ encoding_labelled label.now }
     {
         first_with_label(&ENCODINGS, label.trim_ascii())
     }

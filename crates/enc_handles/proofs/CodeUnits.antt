@@ -1,5 +1,5 @@
 -- The code units of a list of bytes, one at a time and from a place on.
-use Rattle.std.proofs.Common.{◌≡◌, ℕ, zero, suc, ◌+◌, ◌*◌, ◌-◌, ◌<◌, ◌≤◌, Bool, true, false, cond, List, [], ◌∷◌, length, take, drop, get_or, refl, sym, ap, ◌∙◌, arith, length-take, length-drop, length-take-le, get_or-take}
+use Rattle.std.proofs.Common.{◌≡◌, ℕ, zero, suc, ◌+◌, ◌*◌, ◌-◌, ◌/◌, ◌<◌, ◌≤◌, Bool, true, false, cond, List, [], ◌∷◌, length, take, drop, get_or, refl, sym, ap, ◌∙◌, arith, length-take-le, get_or-take}
 use Rattle.std.proofs.lemmas.List.{drop-take, at_drop_more}
 use Rattle.enc_handles.specs.Utf16.{code_unit, code_units, is_surrogate, bmp_len}
 
@@ -60,3 +60,11 @@ bmp_len-here units i unit within here met so_far =
     at_drop_more bmp_len units i 0 within
     ∙ ap (λ (b : Bool). cond b 0 (bmp_len (drop (i + 1) units) + 1)) (ap (λ (u : ℕ). is_surrogate u) (sym here) ∙ met) in
     omega arith
+
+pub twice_length-code_units : (big : Bool) (bytes : List ℕ) → (2 * length (code_units big bytes) ≤ length bytes) × (length bytes < 2 * length (code_units big bytes) + 2)
+twice_length-code_units big [] = (omega arith, omega arith)
+twice_length-code_units big (a ∷ []) = (omega arith, omega arith)
+twice_length-code_units big (a ∷ b ∷ bytes) = let rest = twice_length-code_units big bytes in (omega (arith, rest.0), omega (arith, rest.1))
+
+pub length-code_units : (big : Bool) (bytes : List ℕ) → length (code_units big bytes) ≡ length bytes / 2
+length-code_units big bytes = let h = twice_length-code_units big bytes in omega (arith, h.0, h.1)

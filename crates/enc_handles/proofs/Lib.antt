@@ -1,4 +1,9 @@
 pub mod AsciiLemmas
 pub mod CodeUnits
+pub mod CopyUtf16
+pub mod CopyUtf8
+pub mod Longest
 pub mod LoopLemmas
+pub mod Sequences
+pub mod Surrogates
 pub mod TextLemmas

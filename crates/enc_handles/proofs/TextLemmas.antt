@@ -1,5 +1,5 @@
 -- The bytes of a scalar, and two writes in a row.
-use Rattle.std.proofs.Common.{◌≡◌, ℕ, ◌+◌, ◌*◌, ◌/◌, ◌%◌, ◌<◌, ◌≤◌, List, [], ◌∷◌, ◌++◌, length, take, refl, sym, ap, ◌∙◌, append_assoc, add_assoc, length-append, arith}
+use Rattle.std.proofs.Common.{◌≡◌, ℕ, ◌+◌, ◌/◌, ◌%◌, ◌<◌, ◌≤◌, List, [], ◌∷◌, ◌++◌, length, take, ap, ◌∙◌, append_assoc, length-append, arith}
 use Rattle.std.proofs.lemmas.Bool.Decides.{nat_tests}
 use lib.Utf8.{encode}
 use Rattle.enc_handles.specs.UnitSlice.{Puts}
@@ -42,3 +42,9 @@ length-encode_three c low high = ap length (encode_three c low high)
 
 pub length-encode_four : (c : ℕ) → 0x1_0000 ≤ c → length (encode c) ≡ 4
 length-encode_four c low = ap length (encode_four c low)
+
+pub length-encode_one : (c : ℕ) → c < 0x80 → length (encode c) ≡ 1
+length-encode_one c small = ap length (encode_one c small)
+
+-- how long the encoding of a scalar is
+pub ruleset text_lengths = (length-encode_one, length-encode_two, length-encode_three, length-encode_four)

@@ -1,5 +1,5 @@
 -- The ASCII at the front of a list of bytes, and how much of it a copy moves.
-use Rattle.std.specs.Prelude.{◌≡◌, ℕ, ◌+◌, ◌<◌, ◌≤◌, min, List, [], ◌∷◌, length, take, nat_lt, ◌==◌, if◌then◌else◌}
+use Rattle.std.specs.Prelude.{ℕ, ◌+◌, ◌<◌, ◌≤◌, min, List, [], ◌∷◌, length, take, nat_lt, ◌==◌, if◌then◌else◌}
 use Rattle.enc_handles.specs.Utf8.{text_of}
 use Rattle.enc_handles.specs.declared.results.DecoderResult.{DecoderResult}
 use Rattle.enc_handles.specs.declared.results.DecoderResult.TheVariants.{InputEmpty, OutputFull}

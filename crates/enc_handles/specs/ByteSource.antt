@@ -1,6 +1,5 @@
 -- What a source of bytes and its handles show.
-use Rattle.std.specs.Prelude.{ℕ, List}
-use Rattle.std.specs.Borrow.{MutBor, GName}
+use Rattle.std.specs.Borrow.{MutBor}
 use Rattle.enc_handles.specs.Reading.{Reading}
 use Rattle.enc_handles.specs.declared.byte_slice.ByteSlice.{Ghosts}
 use Rattle.enc_handles.specs.declared.byte_source.ByteSourceOver.{ByteSourceOver}

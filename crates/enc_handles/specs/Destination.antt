@@ -1,6 +1,5 @@
 -- What a destination and its rooms show.
-use Rattle.std.specs.Prelude.{ℕ, ◌-◌, List, take, length}
-use Rattle.std.specs.Borrow.{MutBor}
+use Rattle.std.specs.Prelude.{◌-◌, take, length}
 use Rattle.enc_handles.specs.Writing.{Writing}
 use Rattle.enc_handles.specs.declared.unit_slice.UnitSlice.{Ghosts}
 use Rattle.enc_handles.specs.declared.destination.DestinationOver.{DestinationOver}

@@ -1,8 +1,9 @@
 -- How many elements a scalar has at most in each form.
-use Rattle.std.specs.Prelude.{◌≡◌, ℕ, ◌+◌, ◌<◌, ◌≤◌, [], ◌∷◌, length, encode_utf8}
+use Rattle.std.specs.Prelude.{◌≡◌, ℕ, ◌+◌, ◌<◌, ◌≤◌, [], ◌∷◌, min, length, refl}
 use Rattle.std.specs.Char.{IsScalar, len_utf8}
 use Rattle.std.specs.Char.Escape.{encode_utf16}
-use Rattle.std.proofs.Common.{arith}
+use Rattle.std.proofs.Common.{arith, inl, inr}
+use Rattle.enc_handles.specs.Utf16.{TakesWhatFits}
 use Rattle.std.proofs.lemmas.Bool.Decides.{nat_tests}
 use Rattle.std.proofs.lemmas.Str.{length-encode, encode_ascii}
 use lib.Utf8.{encode}
@@ -39,3 +40,9 @@ ascii_text_utf8 c below = encode_ascii c below
 
 pub ascii_text_utf16 : (c : ℕ) → c < 0x80 → encode_utf16 c ≡ c ∷ []
 ascii_text_utf16 c below = grind (arith, nat_tests)
+
+pub takes_what_fits_utf8 : TakesWhatFits encode 4 (λ room count. count)
+takes_what_fits_utf8 = inl astral_fits_utf8
+
+pub takes_what_fits_utf16 : TakesWhatFits encode_utf16 0 (λ room count. min count room)
+takes_what_fits_utf16 = inr (λ c. refl, λ room count. omega arith)

@@ -1,6 +1,7 @@
 -- Code units, surrogates and the text of scalars in UTF-16.
 -- Encoding Standard, section 14.2 (shared UTF-16 decoder), and Infra Standard, section 4.6 (surrogates).
-use Rattle.std.specs.Prelude.{◌≡◌, ℕ, ◌+◌, ◌*◌, ◌-◌, ◌<◌, Bool, true, false, not, ◌&&◌, ◌||◌, List, [], ◌∷◌, length, take, slice_index, nat_le, nat_lt, if◌then◌else◌}
+use Rattle.std.specs.Prelude.{◌≡◌, ℕ, ◌+◌, ◌*◌, ◌-◌, ◌≤◌, ◌<◌, Bool, true, false, not, ◌&&◌, ◌||◌, ◌⊎◌, List, [], ◌∷◌, ◌++◌, length, take, slice_index, nat_le, nat_lt, if◌then◌else◌}
+use Rattle.std.specs.Char.{IsScalar}
 use Rattle.std.specs.Char.Escape.{encode_utf16}
 use Rattle.std.specs.List.{flat_map}
 
@@ -56,3 +57,32 @@ encode_utf16_all scalars = flat_map encode_utf16 scalars
 abbrev pub bmp_len : List ℕ → ℕ
 bmp_len [] = 0
 bmp_len (unit ∷ units) = if is_surrogate unit then 0 else bmp_len units + 1
+
+-- a scalar of n units stands at place k, and a unit that is no lead ends it
+pub record HasScalarAt (units : List ℕ) (k scalar n : ℕ) : Type 0 where
+  pub is_scalar : IsScalar scalar
+  pub count : length (encode_utf16 scalar) ≡ n
+  pub within : k + n ≤ length units
+  pub front : take (k + n) units ≡ take k units ++ encode_utf16 scalar
+  pub end : is_lead (slice_index units (k + n - 1)) ≡ false
+
+-- a surrogate that begins no pair stands at place k
+pub record BeginsNoPair (units : List ℕ) (k : ℕ) : Type 0 where
+  pub surrogate : is_surrogate (slice_index units k) ≡ true
+  pub alone : is_lead (slice_index units k) ≡ true → is_trail (slice_index units (k + 1)) ≡ false
+
+-- the units that a copy works on, of which `taken` says how many fit so much room
+abbrev pub utf16_window : (ℕ → ℕ → ℕ) → ℕ → List ℕ → List ℕ
+utf16_window taken room units = without_last_lead (take (taken room (length units)) units)
+
+-- the needed room holds any scalar; or no scalar has other units than in UTF-16, and no more of these are taken than fit
+abbrev pub TakesWhatFits : (ℕ → List ℕ) → ℕ → (ℕ → ℕ → ℕ) → Type 0
+TakesWhatFits form needed taken =
+    ((c : ℕ) → IsScalar c → length (form c) ≤ needed)
+    ⊎ (((c : ℕ) → length (form c) ≡ length (encode_utf16 c)) × ((room count : ℕ) → taken room count ≤ room))
+
+-- the same for one window and one room
+abbrev pub WindowFits : (ℕ → List ℕ) → ℕ → List ℕ → ℕ → Type 0
+WindowFits form needed window room =
+    ((c : ℕ) → IsScalar c → length (form c) ≤ needed)
+    ⊎ (((c : ℕ) → length (form c) ≡ length (encode_utf16 c)) × (length window ≤ room))

@@ -1,5 +1,5 @@
 -- What a destination is: the text written so far, and the room that is left.
-use Rattle.std.specs.Prelude.{ℕ, ◌+◌, ◌-◌, List, ◌++◌, length}
+use Rattle.std.specs.Prelude.{ℕ, ◌-◌, List, ◌++◌, length}
 use Rattle.std.specs.Borrow.{GName}
 
 -- the elements written, how many more fit, and the name of the buffer that they lie in

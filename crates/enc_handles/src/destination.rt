@@ -1,9 +1,11 @@
 //! Destinations for text, in UTF-8 and in UTF-16.
 ghost use Rattle.std.specs.Prelude.{◌≡◌, ◌+◌, ◌-◌, ◌<◌, ◌≤◌, ◌↔◌, [], ◌∷◌, length, List, ℕ, IsTrue, encode_utf8, slice_index, IsOk, IfOk, IfErr, OnOk, OnErr};
 ghost use Rattle.enc_handles.specs.Ascii.{ascii_len, moved_len, moved_text, stop_result, GoesOn};
+ghost use Rattle.enc_handles.specs.Copies.{CopiesUtf8, CopiesUnits, CopiesUtf16};
+ghost use Rattle.enc_handles.specs.Unaligned.{units_in};
 ghost use Rattle.enc_handles.specs.Reading.{left, after_reading};
 ghost use Rattle.enc_handles.specs.ByteSource.{reading};
-ghost use Rattle.enc_handles.specs.Utf16.{is_lead, is_trail, pair_scalar};
+ghost use Rattle.enc_handles.specs.Utf16.{is_lead, is_trail, pair_scalar, code_units, utf16_window, WindowFits, TakesWhatFits};
 ghost use Rattle.std.specs.Borrow.{sem};
 ghost use Rattle.std.specs.Char.{IsScalar};
 ghost use Rattle.enc_handles.specs.Writing.{Writing, after_writing};
@@ -12,10 +14,14 @@ ghost use Rattle.enc_handles.specs.Room.{bmp_destination, astral_destination};
 
 use crate::byte_slice::ByteSlice;
 use crate::byte_source::ByteSourceOver;
+use crate::endian::Endian;
 use crate::results::DecoderResult;
 use crate::room::{AstralRoom, BmpRoom, scalar_of_pair};
 use crate::space::{CopyAsciiResult, Space};
+use crate::unaligned::UnalignedU16Slice;
 use crate::unit_slice::UnitSlice;
+use crate::utf8::{sequence_len, sequence_scalar};
+use crate::utf16::{scalar_at, without_last_lead};
 
 /// What takes text in one form, UTF-8 or UTF-16, and knows how much room is left.
 pub trait Destination: Drop {
@@ -118,6 +124,27 @@ pub trait Destination: Drop {
         ensures places { IfStop result (λ stop. (stop.1 ≡ (reading source.new).place)
             × (stop.2 ≡ length (after_writing (state self.old) (moved_text encode (left (reading source.old)) (state self.old).free)).text)) };
 
+    /// Moves the longest front of whole well-formed UTF-8 sequences whose text fits the room.
+    fn copy_utf8_up_to_invalid_from<B: ByteSlice>(&mut self, source: &mut ByteSourceOver<B>)
+        ensures { CopiesUtf8 encode (reading source.old) (reading source.new) (state self.old) (state self.new) };
+
+    /// How much room a copy of UTF-16 asks for before each scalar: four bytes, or nothing.
+    ghost utf16_room: { ℕ };
+
+    /// How many of so many code units a copy of UTF-16 takes, for a room: all, or as many as are free.
+    ghost utf16_taken: { ℕ → ℕ → ℕ };
+
+    /// Moves code units, in the order of `E`, of the window that `utf16_window` describes: the whole units that are
+    /// left, for UTF-16 no more than fit, without a leading surrogate at the end. Stops at the window's end or for
+    /// want of room with `None`, or behind an unpaired surrogate, which it reads, with the places.
+    fn copy_utf16_from<E: Endian, B: ByteSlice>(
+        &mut self,
+        source: &mut ByteSourceOver<B>,
+    ) -> Option<(usize, usize)>
+        ensures { CopiesUtf16 encode
+            (utf16_window utf16_taken (state self.old).free (code_units E.OPPOSITE_ENDIAN (left (reading source.old))))
+            utf16_room (reading source.old) (reading source.new) (state self.old) (state self.new) result };
+
     /// An ASCII scalar is one element, itself.
     ghost ascii_text: { (c : ℕ) → c < 0x80 → encode c ≡ c ∷ [] };
 
@@ -180,6 +207,37 @@ impl<'a> DestinationOver<&'a mut [u16]> {
 
 impl<S: UnitSlice> DestinationOver<S> {
     ghost use Rattle.enc_handles.specs.Destination.{writing};
+
+    // Writes a scalar.
+    fn put_scalar(&mut self, code: u32)
+        requires scalar { IsScalar code }
+        requires room { length (S.encode code) ≤ (writing self.old).free }
+        ensures { writing self.new ≡ after_writing (writing self.old) (S.encode code) }
+    {
+        if code < 0x1_0000 {
+            self.put_bmp(code as u16);
+        } else {
+            self.put_astral(code);
+        }
+    }
+
+    // Writes the text of code units, and answers how many it read and whether an unpaired surrogate was the last.
+    fn copy_units<E: Endian>(&mut self, units: UnalignedU16Slice) -> (usize, bool)
+        requires { WindowFits S.encode S.utf16_room (units_in E.OPPOSITE_ENDIAN units) (writing self.old).free }
+        ensures { CopiesUnits S.encode (units_in E.OPPOSITE_ENDIAN units.entry) S.utf16_room (writing self.old) (writing self.new) result.0 result.1 }
+    {
+        let needed = self.slice.room_for_utf16();
+        let len = units.len();
+        let mut read = 0;
+        while read < len && needed <= self.slice.unit_count() - self.pos {
+            let Some((scalar, count)) = scalar_at::<E>(&units, read) else {
+                return (read + 1, true);
+            };
+            self.put_scalar(scalar);
+            read += count;
+        }
+        (read, false)
+    }
 
     // Moves ASCII, and then reads the byte past it if there is one and `needed` elements are free.
     fn move_ascii<B: ByteSlice>(
@@ -274,6 +332,44 @@ impl<S: UnitSlice> Destination for DestinationOver<S> {
         match self.move_ascii(source, needed) {
             Ok(byte) => CopyAsciiResult::GoOn((byte, AstralRoom { dest: self })),
             Err(result) => CopyAsciiResult::Stop((result, source.consumed(), self.written())),
+        }
+    }
+
+    fn copy_utf8_up_to_invalid_from<B: ByteSlice>(&mut self, source: &mut ByteSourceOver<B>) {
+        loop {
+            let bytes = source.rest();
+            let len = sequence_len(bytes);
+            if len == 0 {
+                return;
+            }
+            let code = sequence_scalar(bytes, len);
+            if self.slice.unit_count() - self.pos < self.slice.text_len(code) {
+                return;
+            }
+            let rest = bytes.len() - len;
+            self.put_scalar(code);
+            source.read_until(rest);
+        }
+    }
+
+    ghost utf16_room = { S.utf16_room };
+
+    ghost utf16_taken = { S.utf16_taken };
+
+    fn copy_utf16_from<E: Endian, B: ByteSlice>(
+        &mut self,
+        source: &mut ByteSourceOver<B>,
+    ) -> Option<(usize, usize)> {
+        let bytes = source.rest();
+        let count = self.slice.utf16_count(self.pos, bytes.len() / 2);
+        let units = without_last_lead::<E>(UnalignedU16Slice::new(bytes, count));
+        let (read, unpaired) = self.copy_units::<E>(units);
+        let rest = bytes.len() - 2 * read;
+        source.read_until(rest);
+        if unpaired {
+            Some((source.consumed(), self.written()))
+        } else {
+            None
         }
     }
 

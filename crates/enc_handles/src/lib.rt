@@ -14,3 +14,5 @@ pub mod space;
 mod tests;
 pub mod unaligned;
 pub mod unit_slice;
+mod utf16;
+mod utf8;

@@ -2,9 +2,11 @@
 use crate::byte_slice::ByteSlice;
 use crate::byte_source::{ByteSource, ByteSourceOver};
 use crate::destination::{Destination, DestinationOver, Utf8Destination, Utf16Destination};
+use crate::endian::{BigEndian, Endian, LittleEndian};
 use crate::pattern::{decode_latin1, latin1_to_utf8};
 use crate::results::DecoderResult;
 use crate::space::{CopyAsciiResult, Space};
+use crate::unaligned::UnalignedU16Slice;
 use crate::unit_slice::UnitSlice;
 
 // Where a check found no space, the place that it answered.
@@ -219,4 +221,151 @@ fn a_loop_over_both(rt: HostRuntime) {
         (DecoderResult::InputEmpty, 4, 4)
     );
     assert_eq!(rt; &units[..4], [0x61, 0xE4, 0x62, 0xFF].as_slice());
+}
+
+// How many bytes a copy of UTF-8 to UTF-8 reads, and how many it writes.
+fn copied_utf8(src: &[u8], dst: &mut [u8]) -> (usize, usize) {
+    let mut source = ByteSource::new(src);
+    let mut dest = Utf8Destination::new(dst);
+    dest.copy_utf8_up_to_invalid_from(&mut source);
+    (source.consumed(), dest.written())
+}
+
+// The same to UTF-16.
+fn copied_utf8_to_utf16(src: &[u8], dst: &mut [u16]) -> (usize, usize) {
+    let mut source = ByteSource::new(src);
+    let mut dest = Utf16Destination::new(dst);
+    dest.copy_utf8_up_to_invalid_from(&mut source);
+    (source.consumed(), dest.written())
+}
+
+#[test]
+fn utf8_is_copied_up_to_an_invalid_sequence(rt: HostRuntime) {
+    let cases: [(&[u8], usize); 14] = [
+        (
+            &[0x61, 0xC3, 0xA4, 0xE2, 0x82, 0xAC, 0xF0, 0x9F, 0x98, 0x80],
+            10,
+        ),
+        (&[0x61, 0xC3], 1),
+        (&[0x61, 0xE2, 0x82], 1),
+        (&[0x61, 0xF0, 0x9F, 0x98], 1),
+        (&[0x80], 0),
+        (&[0xC1, 0xBF], 0),
+        (&[0xE0, 0x9F, 0x80], 0),
+        (&[0xE2, 0x82, 0x61], 0),
+        (&[0xED, 0xA0, 0x80], 0),
+        (&[0xEF, 0xBF, 0xBD], 3),
+        (&[0xF0, 0x8F, 0x80, 0x80], 0),
+        (&[0xF4, 0x8F, 0xBF, 0xBF], 4),
+        (&[0xF4, 0x90, 0x80, 0x80], 0),
+        (&[0xF5, 0x80, 0x80, 0x80], 0),
+    ];
+    for (bytes, read) in cases {
+        let mut buffer = [0u8; 12];
+        assert_eq!(rt; copied_utf8(bytes, &mut buffer), (read, read));
+    }
+}
+
+#[test]
+fn utf8_is_copied_as_far_as_there_is_room(rt: HostRuntime) {
+    let bytes = [0x61, 0xF0, 0x9F, 0x98, 0x80];
+    for (room, read) in [(0usize, 0usize), (1, 1), (2, 1), (3, 1), (4, 1), (5, 5)] {
+        let mut buffer = [0u8; 5];
+        assert_eq!(rt; copied_utf8(&bytes, &mut buffer[..room]), (read, read));
+    }
+    for (room, answer) in [
+        (0usize, (0usize, 0usize)),
+        (1, (1, 1)),
+        (2, (1, 1)),
+        (3, (5, 3)),
+    ] {
+        let mut buffer = [0u16; 3];
+        assert_eq!(rt; copied_utf8_to_utf16(&bytes, &mut buffer[..room]), answer);
+    }
+}
+
+// What a copy of UTF-16 to UTF-8 answers, how many bytes it reads and how many it writes.
+fn copied_utf16<E: Endian>(src: &[u8], dst: &mut [u8]) -> (Option<(usize, usize)>, usize, usize) {
+    let mut source = ByteSource::new(src);
+    let mut dest = Utf8Destination::new(dst);
+    let answer = dest.copy_utf16_from::<E, _>(&mut source);
+    (answer, source.consumed(), dest.written())
+}
+
+// The same to UTF-16.
+fn copied_utf16_to_utf16<E: Endian>(
+    src: &[u8],
+    dst: &mut [u16],
+) -> (Option<(usize, usize)>, usize, usize) {
+    let mut source = ByteSource::new(src);
+    let mut dest = Utf16Destination::new(dst);
+    let answer = dest.copy_utf16_from::<E, _>(&mut source);
+    (answer, source.consumed(), dest.written())
+}
+
+#[test]
+fn utf16_is_copied_to_utf8(rt: HostRuntime) {
+    let mut buffer = [0u8; 8];
+    assert_eq!(rt;
+        copied_utf16::<LittleEndian>(&[0x61, 0, 0xE4, 0, 0x61], &mut buffer),
+        (None, 4, 3)
+    );
+    assert_eq!(rt;
+        copied_utf16::<BigEndian>(&[0xD8, 0x3D, 0xDE, 0], &mut buffer),
+        (None, 4, 4)
+    );
+    assert_eq!(rt; &buffer[..4], [0xF0, 0x9F, 0x98, 0x80].as_slice());
+    assert_eq!(rt;
+        copied_utf16::<LittleEndian>(&[0x61, 0, 0x3D, 0xD8], &mut buffer),
+        (None, 2, 1)
+    );
+    assert_eq!(rt;
+        copied_utf16::<LittleEndian>(&[0, 0xDC, 0x61, 0], &mut buffer),
+        (Some((2, 0)), 2, 0)
+    );
+    assert_eq!(rt;
+        copied_utf16::<LittleEndian>(&[0x3D, 0xD8, 0x61, 0], &mut buffer),
+        (Some((2, 0)), 2, 0)
+    );
+    assert_eq!(rt;
+        copied_utf16::<LittleEndian>(&[0x61, 0], &mut buffer[..3]),
+        (None, 0, 0)
+    );
+}
+
+#[test]
+fn utf16_is_copied_to_utf16(rt: HostRuntime) {
+    let mut buffer = [0u16; 3];
+    assert_eq!(rt;
+        copied_utf16_to_utf16::<BigEndian>(&[0, 0x61, 0xD8, 0x3D, 0xDE, 0], &mut buffer),
+        (None, 6, 3)
+    );
+    assert_eq!(rt; buffer, [0x61, 0xD83D, 0xDE00]);
+    assert_eq!(rt;
+        copied_utf16_to_utf16::<BigEndian>(&[0, 0x61, 0xD8, 0x3D, 0xDE, 0], &mut buffer[..2]),
+        (None, 2, 1)
+    );
+    assert_eq!(rt;
+        copied_utf16_to_utf16::<BigEndian>(&[0, 0x61, 0xDE, 0], &mut buffer),
+        (Some((4, 1)), 4, 1)
+    );
+}
+
+#[test]
+fn unaligned_units(rt: HostRuntime) {
+    let bytes = [0x61, 0, 0x3D, 0xD8, 0x62, 0, 0x63];
+    let mut units = UnalignedU16Slice::new(&bytes, 3);
+    assert_eq!(rt; units.len(), 3);
+    assert_eq!(rt; units.at(1), 0xD83D);
+    assert_eq!(rt; units.tail(2).len(), 1);
+    let mut other = [7u16; 4];
+    assert_eq!(rt;
+        units.copy_bmp_to::<LittleEndian>(&mut other),
+        Some((0xD83D, 1))
+    );
+    assert_eq!(rt; other[0], 0x61);
+    assert_eq!(rt; other[3], 7);
+    units.trim_last();
+    assert_eq!(rt; units.copy_bmp_to::<BigEndian>(&mut other), None);
+    assert_eq!(rt; &other[..2], [0x6100, 0x3DD8].as_slice());
 }

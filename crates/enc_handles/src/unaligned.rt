@@ -1,8 +1,9 @@
 //! Code units that lie in bytes at any place.
 ghost use Rattle.std.specs.Prelude.{◌≡◌, ◌+◌, ◌-◌, ◌*◌, ◌<◌, ◌≤◌, ◌↔◌, length, take, drop, slice_index, false, Bool, IsSome, IfSome};
-ghost use Rattle.enc_handles.specs.Utf16.{code_units, is_surrogate, bmp_len};
+ghost use Rattle.enc_handles.specs.Utf16.{code_units, bmp_len};
 
 use crate::endian::Endian;
+use crate::utf16::is_surrogate;
 
 /// So many 16-bit code units in the bytes of a slice, which may begin at any place.
 #[derive(Clone, Copy)]
@@ -96,11 +97,4 @@ impl<'a> UnalignedU16Slice<'a> {
         }
         None
     }
-}
-
-// Whether a code unit is a surrogate.
-pub(crate) fn is_surrogate(unit: u16) -> bool
-    ensures { result ≡ is_surrogate unit }
-{
-    0xD800 <= unit && unit <= 0xDFFF
 }

@@ -1,11 +1,12 @@
 //! What the text of a destination lies in, and how a scalar is written there.
-ghost use Rattle.std.specs.Prelude.{◌≡◌, ◌+◌, ◌-◌, ◌<◌, ◌≤◌, [], ◌∷◌, length, take, List, ℕ, encode_utf8};
+ghost use Rattle.std.specs.Prelude.{◌≡◌, ◌+◌, ◌-◌, ◌<◌, ◌≤◌, [], ◌∷◌, length, take, min, List, ℕ, encode_utf8};
 ghost use Rattle.std.specs.Borrow.{GName};
 ghost use Rattle.std.specs.Char.{IsScalar};
 ghost use Rattle.std.specs.Char.Escape.{encode_utf16};
 ghost use Rattle.enc_handles.specs.Ascii.{moved_len};
+ghost use Rattle.enc_handles.specs.Utf16.{TakesWhatFits};
 ghost use Rattle.enc_handles.specs.UnitSlice.{Puts};
-ghost use Rattle.enc_handles.specs.Rooms.{ascii_text_utf8, ascii_text_utf16, bmp_fits_utf8, astral_fits_utf8, two_fit_utf8, bmp_fits_utf16, astral_fits_utf16, two_fit_utf16};
+ghost use Rattle.enc_handles.specs.Rooms.{takes_what_fits_utf8, takes_what_fits_utf16, ascii_text_utf8, ascii_text_utf16, bmp_fits_utf8, astral_fits_utf8, two_fit_utf8, bmp_fits_utf16, astral_fits_utf16, two_fit_utf16};
 
 /// A slice of code units: a `&mut [u8]` for UTF-8, a `&mut [u16]` for UTF-16.
 pub trait UnitSlice: Drop {
@@ -53,6 +54,26 @@ pub trait UnitSlice: Drop {
         ensures text { Puts (units self.old) (units self.new) at (encode astral) }
         ensures same_buffer { buffer self.new ≡ buffer self.old };
 
+    /// How much room a copy of UTF-16 asks for before each scalar.
+    ghost utf16_room: { ℕ };
+
+    /// How many of so many code units a copy of UTF-16 takes, for a room.
+    ghost utf16_taken: { ℕ → ℕ → ℕ };
+
+    /// How much room a copy of UTF-16 asks for before each scalar.
+    fn room_for_utf16(&self) -> usize
+        ensures { result ≡ utf16_room };
+
+    /// How many of `count` code units a copy of UTF-16 to `at` and behind it takes.
+    fn utf16_count(&self, at: usize, count: usize) -> usize
+        requires { at ≤ length (units self.now) }
+        ensures taken { result ≡ utf16_taken (length (units self.now) - at) count }
+        ensures within { result ≤ count };
+
+    /// How many units a scalar has.
+    fn text_len(&self, code: u32) -> usize
+        ensures { result ≡ length (encode code) };
+
     /// Moves ASCII from the front of `src` to `at` and behind it, up to the first other byte or the end of
     /// either, and answers the place behind it. What stands there and further on is left open.
     fn copy_ascii_at(&mut self, at: usize, src: &[u8]) -> usize
@@ -61,6 +82,9 @@ pub trait UnitSlice: Drop {
         ensures text { Puts (units self.old) (units self.new) at
             (take (moved_len src.now (length (units self.old) - at)) src.now) }
         ensures same_buffer { buffer self.new ≡ buffer self.old };
+
+    /// What a copy of UTF-16 takes fits.
+    ghost takes_what_fits: { TakesWhatFits encode utf16_room utf16_taken };
 
     /// An ASCII scalar is one element, itself.
     ghost ascii_text: { (c : ℕ) → c < 0x80 → encode c ≡ c ∷ [] };
@@ -179,9 +203,36 @@ impl<'a> UnitSlice for &'a mut [u8] {
         put_four(self, at, astral)
     }
 
+    #[tactic(auto, using(crate::proofs::TextLemmas::text_lengths))]
+    fn text_len(&self, code: u32) -> usize {
+        if code < 0x80 {
+            1
+        } else if code < 0x800 {
+            2
+        } else if code < 0x1_0000 {
+            3
+        } else {
+            4
+        }
+    }
+
     fn copy_ascii_at(&mut self, at: usize, src: &[u8]) -> usize {
         ascii_to_ascii(src, self, at)
     }
+
+    ghost utf16_room = { 4 };
+
+    ghost utf16_taken = { λ room count. count };
+
+    fn room_for_utf16(&self) -> usize {
+        4
+    }
+
+    fn utf16_count(&self, at: usize, count: usize) -> usize {
+        count
+    }
+
+    ghost takes_what_fits = { takes_what_fits_utf8 };
 
     ghost ascii_text = { ascii_text_utf8 };
 
@@ -223,9 +274,27 @@ impl<'a> UnitSlice for &'a mut [u16] {
         put_pair(self, at, astral)
     }
 
+    fn text_len(&self, code: u32) -> usize {
+        if code < 0x1_0000 { 1 } else { 2 }
+    }
+
     fn copy_ascii_at(&mut self, at: usize, src: &[u8]) -> usize {
         ascii_to_basic_latin(src, self, at)
     }
+
+    ghost utf16_room = { 0 };
+
+    ghost utf16_taken = { λ room count. min count room };
+
+    fn room_for_utf16(&self) -> usize {
+        0
+    }
+
+    fn utf16_count(&self, at: usize, count: usize) -> usize {
+        count.min(self.len() - at)
+    }
+
+    ghost takes_what_fits = { takes_what_fits_utf16 };
 
     ghost ascii_text = { ascii_text_utf16 };
 

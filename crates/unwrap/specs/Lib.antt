@@ -3,3 +3,4 @@ pub mod Memory
 pub mod Status
 pub mod Words
 pub mod Ends
+pub mod Shown

@@ -3,10 +3,12 @@ ghost use Rattle.std.specs.Prelude.{◌≡◌};
 ghost use Rattle.unwrap.specs.Status.{code_of};
 
 /// How a command ended.
-#[derive(Clone, Copy, Debug, PartialEq, Eq)]
+#[derive(Debug, PartialEq, Drop)]
 pub enum Status {
     /// All was written.
     Done,
+    /// The header has no text, for this reason; it is never `Memory`.
+    Header(words::Error),
     /// The words name no command.
     Usage,
     /// The source failed.
@@ -26,8 +28,9 @@ impl Status {
     pub fn code(&self) -> u8
         ensures { result ≡ code_of self.now }
     {
-        match *self {
+        match self {
             Status::Done => 0,
+            Status::Header(_) => 1,
             Status::Usage => 2,
             Status::ReadFault => 5,
             Status::TooMuch => 6,

@@ -11,6 +11,7 @@ use std::alloc::{AllocError, Global};
 use std::io;
 use std::io::{Error, ErrorKind, Read, Write};
 use std::test::Fail;
+use words::{EvaluatorError, ParserError};
 
 // How a command ended, what it wrote, and the source as it stands then.
 #[derive(Drop)]
@@ -43,7 +44,7 @@ fn run_once(
 {
     let words = words_of(alloc, words)?;
     let mut shelf = MemoryShelf::new(Vec::new(alloc), Vec::new(alloc));
-    let room = vec![in alloc; 0u8; input.len()]?;
+    let room = vec![in alloc; 0u8; input.len().saturating_mul(3)]?;
     let source = MemorySource::new(input, step, vec![in alloc; read]?);
     let mut out = MemorySink::new(room, step, vec![in alloc; write]?);
     let mut notes = MemorySink::new(Vec::new(alloc), 1, Vec::new(alloc));
@@ -58,51 +59,124 @@ fn run_once(
 #[test]
 fn rows(rt: HostRuntime) -> Result<(), Fail> {
     let alloc = rt.alloc();
-    let rows = [
-        ("empty", "", Status::Done, ""),
+    let rows: [(&str, &[u8], u8, &str); 24] = [
+        ("empty", b"", 0, ""),
         (
             "an address",
-            "=?US-ASCII?Q?Keith_Moore?= <moore@cs.utk.edu>",
-            Status::Done,
+            b"=?US-ASCII?Q?Keith_Moore?= <moore@cs.utk.edu>",
+            0,
             "Keith Moore <moore@cs.utk.edu>",
         ),
         (
+            "two charsets",
+            b"=?UTF-8?Q?Gr=C3=BC=C3=9Fe?= aus =?ISO-8859-1?Q?M=FCnchen?=",
+            0,
+            "Gr\u{FC}\u{DF}e aus M\u{FC}nchen",
+        ),
+        (
+            "a space between words",
+            b"=?ISO-8859-1?Q?a?= =?ISO-8859-1?Q?b?=",
+            0,
+            "ab",
+        ),
+        (
+            "a space before clear text",
+            b"=?ISO-8859-1?Q?a?= b",
+            0,
+            "a b",
+        ),
+        (
+            "a vertical tab between words",
+            b"=?ISO-8859-1?Q?a?=\x0B=?ISO-8859-1?Q?b?=",
+            0,
+            "a\x0Bb",
+        ),
+        (
             "words side by side",
-            "=?UTF-8?Q?str?==?UTF-8?Q?str?=",
-            Status::Done,
+            b"=?UTF-8?Q?str?==?UTF-8?Q?str?=",
+            0,
             "strstr",
         ),
         (
             "words on two lines",
-            "=?UTF-8?Q?str?=\r\n =?UTF-8?Q?str?=",
-            Status::Done,
+            b"=?UTF-8?Q?str?=\r\n =?UTF-8?Q?str?=",
+            0,
             "strstr",
         ),
+        ("a word alone", b"=?UTF-8?Q?str?=", 0, "str"),
         (
-            "underscores at the end",
-            "=?utf-8?Q?a__?=",
-            Status::Done,
-            "a",
+            "surplus padding",
+            b"=?utf-8?B?UG9ydGFsZSBIYWNraW5nVGVhbW==?=",
+            0,
+            "Portale HackingTeam",
         ),
-        ("cut short", "=?UTF-8?Q?a", Status::Done, "=?UTF-8?Q?a"),
+        ("an empty B text", b"=?UTF-8?B??=", 0, ""),
+        ("missing padding", b"=?UTF-8?B?c3R?=", 1, ""),
         (
-            "a bracket in the charset",
-            "=?ISO-8859-1(?Q?a?=",
-            Status::Done,
-            "=?ISO-8859-1(?Q?a?=",
+            "75 bytes",
+            b"=?ISO-8859-1?Q?aaaaaaaaaaaaaaaaaaaaaaaaaaaaaaaaaaaaaaaaaaaaaaaaaaaaaaaaaa?=",
+            0,
+            "aaaaaaaaaaaaaaaaaaaaaaaaaaaaaaaaaaaaaaaaaaaaaaaaaaaaaaaaaa",
         ),
         (
-            "a value beyond ASCII",
-            "=?UTF-8?Q?=C3=A4?=",
-            Status::Unbuilt,
+            "76 bytes",
+            b"=?ISO-8859-1?Q?aaaaaaaaaaaaaaaaaaaaaaaaaaaaaaaaaaaaaaaaaaaaaaaaaaaaaaaaaaa?=",
+            1,
             "",
         ),
+        ("no encoding of this letter", b"=?utf-8?X?a?=", 1, ""),
+        ("no encoding of two letters", b"=?utf-8?QQ?a?=", 1, ""),
+        ("a cut mark", b"\xFF\xFE", 1, ""),
+        ("a mark", b"\xEF\xBB\xBFa", 20, ""),
+        ("underscores at the end", b"=?utf-8?Q?a__?=", 0, "a"),
+        ("an unknown charset", b"=?x-none?Q?=E9?=", 0, "\u{FFFD}"),
+        ("a quoted charset", b"=?\"x\"?Q?a?=", 0, "a"),
+        ("cut short", b"=?UTF-8?Q?a", 0, "=?UTF-8?Q?a"),
+        (
+            "a bracket in the charset",
+            b"=?ISO-8859-1(?Q?a?=",
+            0,
+            "=?ISO-8859-1(?Q?a?=",
+        ),
+        ("a value beyond ASCII", b"=?UTF-8?Q?=C3=A4?=", 0, "\u{E4}"),
     ];
-    for (name, input, status, text) in rows {
-        let bytes = Vec::from_slice(alloc, input.as_bytes())?;
+    for (name, input, code, text) in rows {
+        let bytes = Vec::from_slice(alloc, input)?;
         let end = run_once(alloc, &["unwrap"], bytes, 7, 0, 0)?;
-        assert_eq!(rt; end.status, status, "{name}");
+        assert_eq!(rt; end.status.code(), code, "{name}");
         assert_eq!(rt; end.written.as_slice(), text.as_bytes(), "{name}");
+    }
+    Ok(())
+}
+
+// The first fault of a header, as its status tells it.
+#[test]
+fn faults(rt: HostRuntime) -> Result<(), Fail> {
+    let alloc = rt.alloc();
+    let rows: [(&[u8], Status); 4] = [
+        (
+            b"=?UTF-8?B?c3R?=",
+            Status::Header(words::Error::Evaluator(EvaluatorError::DecodeBase64Error)),
+        ),
+        (
+            b"\xFF\xFE",
+            Status::Header(words::Error::Evaluator(EvaluatorError::DecodeUtf8Error {
+                valid_up_to: 0,
+            })),
+        ),
+        (
+            b"=?utf-8?X?a?=",
+            Status::Header(words::Error::Parser(ParserError::ParseEncodingError('X'))),
+        ),
+        (
+            b"=?utf-8?QQ?a?=",
+            Status::Header(words::Error::Parser(ParserError::ParseEncodingTooBigError)),
+        ),
+    ];
+    for (input, status) in &rows {
+        let end = run_once(alloc, &["unwrap"], Vec::from_slice(alloc, input)?, 1, 0, 0)?;
+        assert_eq!(rt; &end.status, status);
+        assert!(rt; end.written.is_empty());
     }
     Ok(())
 }

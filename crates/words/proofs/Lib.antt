@@ -4,6 +4,10 @@ pub mod Unique
 pub mod Exists
 pub mod Fields
 pub mod Found
-pub mod Parts
-pub mod Ascii
-pub mod Errors
+pub mod TokenLemmas
+pub mod Search
+pub mod Texts
+pub mod Parsing
+pub mod Composition
+pub mod BitGroups
+pub mod BTexts

@@ -1,5 +1,11 @@
 pub mod Word
 pub mod Reading
-pub mod Header
 pub mod Laws
 pub mod Lexer
+pub mod Tokens
+pub mod Base64
+pub mod Encoding
+pub mod Fault
+pub mod Header
+pub mod Parsed
+pub mod SpareBits

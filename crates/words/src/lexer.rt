@@ -1,9 +1,20 @@
-//! Encoded words where they stand in a header (RFC 2047, section 2).
-ghost use Rattle.std.specs.Prelude.{◌≡◌, ℕ, not, ◌==◌, List, IfSome, IfNone};
-ghost use Rattle.std.specs.List.{list_any, position};
+//! Headers as encoded words and clear text (RFC 2047, sections 2 and 6.2).
+ghost use Rattle.std.specs.Prelude.{◌≡◌, ℕ, not, ◌==◌, List, [], ◌++◌, length, map, Some, IfSome, IfNone, IfOk, IfErr, OnOk, string_bytes};
+ghost use Rattle.std.specs.List.{list_any, list_all, position};
 ghost use Rattle.std.specs.Option.{option_map};
 ghost use Rattle.words.specs.Word.{especials, is_field_byte, is_text_byte, IsField, IsText, spelling, word_at};
-ghost use Rattle.words.specs.Lexer.{word_of, SplitsAtMark};
+ghost use Rattle.words.specs.Reading.{Encoded, part_spelling, is_gap_byte, reading_of};
+ghost use Rattle.words.specs.Tokens.{long_words, too_long_words, display_text, part_tokens, tokens_of, word_of as owned_word, part_of, TokenHasLen, comma_joined, texts_of, IsLexerFault};
+ghost use Rattle.words.specs.Lexer.{word_of, SplitsAtMark, NoWordBefore, IsFirstWord, text_tokens};
+
+pub mod encoded_word;
+
+use self::encoded_word::EncodedWord;
+use crate::strategy::RecoverStrategy;
+use memchr::memchr;
+use std::alloc::{AllocError, Global};
+use std::fmt;
+use thiserror::Error;
 
 /// The byte before each field of an encoded word.
 pub const QUESTION_MARK: u8 = b'?';
@@ -99,6 +110,257 @@ pub fn word_at(bytes: &[u8]) -> Option<WordSlices<'_>>
         encoding,
         encoded_text,
     })
+}
+
+/// A piece of a header.
+#[derive(Debug, PartialEq, Eq, Hash, Drop)]
+pub enum Token {
+    /// Bytes that are shown as they stand: text outside of words, or a word
+    /// that is skipped.
+    ClearText(Vec<u8>),
+    /// An encoded word.
+    EncodedWord(EncodedWord),
+}
+
+/// The pieces of a header, in order.
+pub type Tokens = Vec<Token>;
+
+impl Token {
+    /// How many bytes the token has: of a word, those of its spelling with its
+    /// delimiters.
+    pub fn len(&self) -> usize
+        requires { TokenHasLen self.now }
+        ensures { result ≡ length (part_spelling (part_of self.now)) }
+    {
+        match self {
+            Token::ClearText(clear_text) => clear_text.len(),
+            Token::EncodedWord(encoded_word) => encoded_word.len(),
+        }
+    }
+}
+
+/// The texts of the words that are too long, in order.
+#[derive(Debug, PartialEq, Eq, Hash, Drop)]
+pub struct TooLongEncodedWords(pub Vec<String>);
+
+impl TooLongEncodedWords {
+    /// These texts.
+    pub fn new(encoded_words: Vec<String>) -> TooLongEncodedWords
+        ensures { result ≡ record { 0 = encoded_words } }
+    {
+        TooLongEncodedWords(encoded_words)
+    }
+}
+
+impl fmt::Display for TooLongEncodedWords {
+    ghost output = { λ words. Some (comma_joined (texts_of words)) };
+
+    fn fmt<W: fmt::Write>(&self, f: &mut fmt::Formatter<W>) -> fmt::Result {
+        match self.0.as_slice() {
+            [] => Ok(()),
+            [first, rest @ ..] => {
+                f.write_str(first)?;
+                for word in rest {
+                    write!(f, ", {word}")?;
+                }
+                Ok(())
+            }
+        }
+    }
+}
+
+/// Why a header has no tokens.
+#[derive(Debug, PartialEq, Drop, Error)]
+pub enum LexerError {
+    /// Never answered: every list of bytes is a header.
+    #[error("cannot parse bytes into tokens: {0}")]
+    ParseBytesError(String),
+    /// Some words have more than 75 bytes, and the strategy is to abort. It has
+    /// the texts of all of them, in order.
+    #[error("Cannot parse the following encoded words, because they are too long: {0}")]
+    ParseEncodedWordTooLongError(TooLongEncodedWords),
+    /// Want of memory.
+    #[error("no memory")]
+    Memory,
+}
+
+impl From<AllocError> for LexerError {
+    ghost use Rattle.std.specs.Prelude.{◌≡◌};
+    ghost use Rattle.words.specs.declared.lexer.LexerError.TheVariants.{Memory};
+
+    ghost from_gives = { λ _ e. e ≡ Memory };
+
+    fn from(_error: AllocError) -> LexerError {
+        LexerError::Memory
+    }
+}
+
+// The first word of some bytes, and what stands before and after it.
+#[derive(Clone, Copy)]
+struct FirstWord<'a> {
+    before: &'a [u8],
+    word: WordSlices<'a>,
+    after: &'a [u8],
+}
+
+// The first word of `bytes`. A word begins with `=` alone.
+//
+// An attempt at a word stops at the first byte that can't stand in it. Fields
+// have no `=` and texts have no question mark, so the next `=?` stands at most
+// one byte before that one, and all attempts together are linear in the bytes.
+fn first_word(bytes: &[u8]) -> Option<FirstWord<'_>>
+    ensures found { IfSome result (λ f. IsFirstWord bytes.now f.before.now (word_of f.word) f.after.now) }
+    ensures spelled { IfSome result (λ f. f.word.spelling.now ≡ spelling (word_of f.word)) }
+    ensures none { IfNone result (NoWordBefore bytes.now (length bytes.now)) }
+{
+    let mut at = 0;
+    while let Some(skipped) = memchr(b'=', &bytes[at..]) {
+        at += skipped;
+        match word_at(&bytes[at..]) {
+            None => at += 1,
+            Some(word) => {
+                let end = at + word.spelling.len();
+                return Some(FirstWord {
+                    before: &bytes[..at],
+                    word,
+                    after: &bytes[end..],
+                });
+            }
+        }
+    }
+    None
+}
+
+// Whether the bytes are white space alone, as between neighbouring words.
+fn is_gap(text: &[u8]) -> bool
+    ensures { result ≡ list_all is_gap_byte text.now }
+{
+    text.iter().all(|byte| matches!(*byte, b' ' | b'\t' | b'\n' | 0x0C | b'\r'))
+}
+
+// Appends text outside of words, unless it is empty or a gap: white space alone between two words.
+fn push_clear_text(
+    alloc: Global,
+    tokens: &mut Tokens,
+    text: &[u8],
+    between_words: bool,
+) -> Result<(), AllocError>
+    ensures { OnOk result
+        (map part_of tokens.new.items ≡ map part_of tokens.old.items ++ text_tokens between_words text.now) }
+{
+    if text.is_empty() || (between_words && is_gap(text)) {
+        return Ok(());
+    }
+    tokens.push(Token::ClearText(text.to_vec(alloc)?))?;
+    Ok(())
+}
+
+// A word that is to be decoded.
+fn to_encoded_word(alloc: Global, word: &WordSlices) -> Result<EncodedWord, AllocError>
+    ensures { IfOk result (λ owned. owned_word owned ≡ word_of word.now) }
+{
+    let charset = word.charset.to_vec(alloc)?;
+    let encoding = word.encoding.to_vec(alloc)?;
+    let encoded_text = word.encoded_text.to_vec(alloc)?;
+    Ok(EncodedWord::new(charset, encoding, encoded_text))
+}
+
+// Appends a word, as clear text where it is skipped.
+fn push_word(
+    alloc: Global,
+    tokens: &mut Tokens,
+    word: &WordSlices,
+    strategy: RecoverStrategy,
+) -> Result<(), AllocError>
+    requires { word.now.spelling.now ≡ spelling (word_of word.now) }
+    ensures { OnOk result
+        (map part_of tokens.new.items ≡ map part_of tokens.old.items ++ part_tokens strategy (Encoded (word_of word.now))) }
+{
+    let too_long = word.spelling.len() > EncodedWord::MAX_LENGTH;
+    let token = if too_long && strategy == RecoverStrategy::Skip {
+        Token::ClearText(word.spelling.to_vec(alloc)?)
+    } else {
+        Token::EncodedWord(to_encoded_word(alloc, word)?)
+    };
+    tokens.push(token)?;
+    Ok(())
+}
+
+// The tokens of a header. Too long words stay, but those that are skipped are clear text.
+fn tokenize(
+    alloc: Global,
+    encoded_bytes: &[u8],
+    strategy: RecoverStrategy,
+) -> Result<Tokens, AllocError>
+    ensures { IfOk result (λ tokens. map part_of tokens.items ≡ tokens_of strategy (reading_of encoded_bytes.now)) }
+{
+    let mut tokens = Vec::new(alloc);
+    let mut rest = encoded_bytes;
+    let mut after_word = false;
+    while let Some(first) = first_word(rest) {
+        push_clear_text(alloc, &mut tokens, first.before, after_word)?;
+        push_word(alloc, &mut tokens, &first.word, strategy)?;
+        rest = first.after;
+        after_word = true;
+    }
+    push_clear_text(alloc, &mut tokens, rest, false)?;
+    Ok(tokens)
+}
+
+// The texts of the tokens' words that are too long, in order.
+fn too_long_texts(alloc: Global, tokens: &[Token]) -> Result<Vec<String>, AllocError>
+    ensures { IfOk result (λ texts. map string_bytes texts.items ≡ map display_text (long_words (map part_of tokens.now))) }
+{
+    let mut texts = Vec::new(alloc);
+    for token in tokens {
+        if let Token::EncodedWord(word) = token
+            && word.is_too_long()
+        {
+            texts.push(word.to_string(alloc)?)?;
+        }
+    }
+    Ok(texts)
+}
+
+// Refuses tokens with words that are too long, where the strategy is to abort.
+fn validate_tokens(
+    alloc: Global,
+    tokens: Tokens,
+    strategy: RecoverStrategy,
+) -> Result<Tokens, LexerError>
+    ensures same { IfOk result (λ valid. valid.items ≡ tokens.items) }
+    ensures none_too_long { OnOk result (too_long_words strategy (map part_of tokens.items) ≡ []) }
+    ensures fault { IfErr result (IsLexerFault (too_long_words strategy (map part_of tokens.items))) }
+{
+    if strategy != RecoverStrategy::Abort {
+        return Ok(tokens);
+    }
+    let texts = too_long_texts(alloc, &tokens)?;
+    if texts.is_empty() {
+        return Ok(tokens);
+    }
+    let too_long = TooLongEncodedWords::new(texts);
+    Err(LexerError::ParseEncodedWordTooLongError(too_long))
+}
+
+/// The tokens of a header: its encoded words and the clear text outside of
+/// them, in order, without the white space between neighbouring words
+/// (RFC 2047, sections 2 and 6.2). A word with more than 75 bytes is a word
+/// like any other where the strategy is to decode it, clear text of its own
+/// where it is to be skipped, and a reason for
+/// `ParseEncodedWordTooLongError` where the strategy is to abort. The error has
+/// the texts of all such words, in order. `ParseBytesError` is never answered.
+pub fn run(
+    alloc: Global,
+    encoded_bytes: &[u8],
+    strategy: RecoverStrategy,
+) -> Result<Tokens, LexerError>
+    ensures tokens { IfOk result (λ tokens. map part_of tokens.items ≡ tokens_of strategy (reading_of encoded_bytes.now)) }
+    ensures none_too_long { OnOk result (too_long_words strategy (reading_of encoded_bytes.now) ≡ []) }
+    ensures fault { IfErr result (IsLexerFault (too_long_words strategy (reading_of encoded_bytes.now))) }
+{
+    let tokens = tokenize(alloc, encoded_bytes, strategy)?;
+    validate_tokens(alloc, tokens, strategy)
 }
 
 #[cfg(test)]

@@ -1,4 +1,4 @@
-use Rattle.std.proofs.Common.{◌≡◌, ◌+◌, ◌≤◌, length, take, drop}
+use Rattle.std.proofs.Common.{◌≡◌, ◌+◌, ◌≤◌, take, drop}
 use Rattle.enc_handles.specs.Ascii.{ascii_len}
 use Rattle.enc_handles.specs.UnitSlice.{Puts}
 use Rattle.enc_handles.proofs.unit_slice.ascii_to_basic_latin.Given as goal

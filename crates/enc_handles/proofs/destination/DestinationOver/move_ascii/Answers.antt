@@ -1,9 +1,7 @@
-use Rattle.std.proofs.Common.{◌≡◌, ◌+◌, ◌-◌, ◌<◌, length, take, min, ap, sym, ◌∙◌, arith}
+use Rattle.std.proofs.Common.{◌≡◌, ◌+◌, ◌-◌, length, ap, sym, ◌∙◌, arith}
 use Rattle.std.proofs.lemmas.Bool.Decides.{nat_tests}
-use Rattle.enc_handles.specs.Ascii.{moved_len, moved_text, ascii_len}
-use Rattle.enc_handles.specs.ByteSource.{reading}
-use Rattle.enc_handles.specs.Reading.{left}
-use Rattle.enc_handles.proofs.AsciiLemmas.{ascii_len_le, ascii_len-past, moved_len_le, length-take-moved_len, moved_text-ascii, written}
+use Rattle.enc_handles.specs.Ascii.{moved_text, ascii_len}
+use Rattle.enc_handles.proofs.AsciiLemmas.{ascii_len_le, ascii_len-past, length-take-moved_len, moved_text-ascii, written}
 use Rattle.enc_handles.proofs.destination.DestinationOver.move_ascii.Goals as goal
 
 pub overflow_sub-rest : goal.overflow_sub-rest

@@ -1,4 +1,4 @@
-use Rattle.std.proofs.Common.{false, sym, ◌∙◌, arith}
+use Rattle.std.proofs.Common.{false, arith}
 use Rattle.enc_handles.proofs.CodeUnits.{length-window, window-at}
 use Rattle.enc_handles.proofs.unaligned.UnalignedU16Slice.at.Goals as goal
 

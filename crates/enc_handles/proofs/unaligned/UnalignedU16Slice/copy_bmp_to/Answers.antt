@@ -1,6 +1,6 @@
-use Rattle.std.proofs.Common.{◌≡◌, ◌<◌, true, length, sym, ◌∙◌, ap, arith, rules}
+use Rattle.std.proofs.Common.{◌≡◌, ◌<◌, true, length, arith}
 use Rattle.enc_handles.specs.Unaligned.{units_in}
-use Rattle.enc_handles.specs.Utf16.{bmp_len, is_surrogate}
+use Rattle.enc_handles.specs.Utf16.{is_surrogate}
 use Rattle.enc_handles.proofs.CodeUnits.{bmp_len-here}
 use Rattle.enc_handles.proofs.unaligned.UnalignedU16Slice.copy_bmp_to.Goals as goal
 

@@ -1,4 +1,4 @@
-use Rattle.std.proofs.Common.{◌≡◌, ◌+◌, ◌≤◌, length, take, drop}
+use Rattle.std.proofs.Common.{◌≡◌, ◌+◌, length, take, drop}
 use Rattle.enc_handles.specs.Unaligned.{units_in}
 use Rattle.enc_handles.specs.Utf16.{bmp_len}
 use Rattle.enc_handles.proofs.unaligned.UnalignedU16Slice.copy_bmp_to.Given as goal

@@ -1,4 +1,4 @@
-use Rattle.std.proofs.Common.{◌≡◌, ◌-◌, length, take, sym, ap, ◌∙◌, arith}
+use Rattle.std.proofs.Common.{◌-◌, sym, arith}
 use Rattle.std.proofs.lemmas.List.{take-take}
 use Rattle.enc_handles.specs.Utf16.{code_units}
 use Rattle.enc_handles.proofs.CodeUnits.{length-window}

@@ -1,0 +1,49 @@
+-- What the bulk copies move.
+use Rattle.std.specs.Prelude.{◌≡◌, ℕ, ◌+◌, ◌*◌, ◌<◌, ◌≤◌, ◌⊎◌, Bool, true, false, MatchBool, List, [], length, take, Option, None, MatchOption, encode_utf8_all}
+use Rattle.enc_handles.specs.Reading.{Reading, left, after_reading}
+use Rattle.enc_handles.specs.Utf16.{encode_utf16_all, is_unpaired_at}
+use Rattle.enc_handles.specs.Utf8.{AreScalars, text_of, IsLongestFront}
+use Rattle.enc_handles.specs.Writing.{Writing, after_writing}
+
+-- the longest front of whole well-formed sequences whose text fits the room was read, and its text was written
+pub record CopiesUtf8 (form : ℕ → List ℕ) (old new : Reading) (before after : Writing) : Type 0 where
+  pub scalars : List ℕ
+  pub longest : IsLongestFront form (left old) before.free scalars
+  pub read : new ≡ after_reading old (length (encode_utf8_all scalars))
+  pub written : after ≡ after_writing before (text_of form scalars)
+
+-- n units were read, and the window ended there or less than the needed room was left
+pub record StopsBehind (window : List ℕ) (needed : ℕ) (old new : Reading) (after : Writing) (n : ℕ) : Type 0 where
+  pub read : new ≡ after_reading old (2 * n)
+  pub cause : (n ≡ length window) ⊎ (after.free < needed)
+
+-- n units and the unpaired surrogate behind them were read, and the places are those of source and destination
+pub record ReadsUnpaired (window : List ℕ) (old new : Reading) (after : Writing) (places : ℕ × ℕ) (n : ℕ) : Type 0 where
+  pub read : new ≡ after_reading old (2 * (n + 1))
+  pub within : n < length window
+  pub unpaired : is_unpaired_at window n ≡ true
+  pub source_place : places.0 ≡ new.place
+  pub destination_place : places.1 ≡ length after.text
+
+-- a front of the window was read that is the UTF-16 of scalars, and their text was written; then the window
+-- ended, or less than the needed room was left, or an unpaired surrogate was read behind them
+pub record CopiesUtf16 (form : ℕ → List ℕ) (window : List ℕ) (needed : ℕ) (old new : Reading) (before after : Writing) (result : Option (ℕ × ℕ)) : Type 0 where
+  pub scalars : List ℕ
+  pub each : AreScalars scalars
+  pub front : take (length (encode_utf16_all scalars)) window ≡ encode_utf16_all scalars
+  pub written : after ≡ after_writing before (text_of form scalars)
+  pub nothing : before.free < needed → (scalars ≡ []) × (result ≡ None)
+  pub stopped : MatchOption result (StopsBehind window needed old new after (length (encode_utf16_all scalars)))
+      (λ places. ReadsUnpaired window old new after places (length (encode_utf16_all scalars)))
+
+-- the same of the units alone, of which so many were read
+pub record CopiesUnits (form : ℕ → List ℕ) (window : List ℕ) (needed : ℕ) (before after : Writing) (read : ℕ) (unpaired : Bool) : Type 0 where
+  pub scalars : List ℕ
+  pub each : AreScalars scalars
+  pub front : take (length (encode_utf16_all scalars)) window ≡ encode_utf16_all scalars
+  pub written : after ≡ after_writing before (text_of form scalars)
+  pub nothing : before.free < needed → (scalars ≡ []) × (unpaired ≡ false)
+  pub within : read ≤ length window
+  pub stopped : MatchBool unpaired
+      ((read ≡ length (encode_utf16_all scalars) + 1) × (is_unpaired_at window (length (encode_utf16_all scalars)) ≡ true))
+      ((read ≡ length (encode_utf16_all scalars)) × ((read ≡ length window) ⊎ (after.free < needed)))

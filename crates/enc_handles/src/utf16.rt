@@ -1,0 +1,64 @@
+//! Surrogates, and the scalars of code units.
+ghost use Rattle.std.specs.Prelude.{◌≡◌, ◌<◌, length, IfSome, IfNone};
+ghost use Rattle.enc_handles.specs.Unaligned.{units_in};
+ghost use Rattle.enc_handles.specs.Utf16.{is_lead, is_trail, is_surrogate, without_last_lead, HasScalarAt, BeginsNoPair};
+
+use crate::endian::Endian;
+use crate::room::scalar_of_pair;
+use crate::unaligned::UnalignedU16Slice;
+
+// The scalar that stands at `i` and how many units it has, or `None` where an unpaired surrogate stands there
+// and nothing before `i` is its lead.
+pub(crate) fn scalar_at<E: Endian>(units: &UnalignedU16Slice, i: usize) -> Option<(u32, usize)>
+    requires { i < length (units_in E.OPPOSITE_ENDIAN units.now) }
+    ensures some { IfSome result (λ found. HasScalarAt (units_in E.OPPOSITE_ENDIAN units.now) i found.0 found.1) }
+    ensures none { IfNone result (BeginsNoPair (units_in E.OPPOSITE_ENDIAN units.now) i) }
+{
+    let unit = units.unit::<E>(i);
+    if !is_surrogate(unit) {
+        return Some((u32::from(unit), 1));
+    }
+    if !is_lead(unit) || i + 1 == units.len() {
+        return None;
+    }
+    let second = units.unit::<E>(i + 1);
+    if !is_trail(second) {
+        return None;
+    }
+    Some((scalar_of_pair(unit, second), 2))
+}
+
+// The units without the last one where that is a leading surrogate.
+pub(crate) fn without_last_lead<'a, E: Endian>(
+    units: UnalignedU16Slice<'a>,
+) -> UnalignedU16Slice<'a>
+    ensures { units_in E.OPPOSITE_ENDIAN result ≡ without_last_lead (units_in E.OPPOSITE_ENDIAN units.entry) }
+{
+    let mut units = units;
+    let len = units.len();
+    if len > 0 && is_lead(units.unit::<E>(len - 1)) {
+        units.trim_last();
+    }
+    units
+}
+
+// Whether a code unit is a leading surrogate.
+pub(crate) fn is_lead(unit: u16) -> bool
+    ensures { result ≡ is_lead unit }
+{
+    0xD800 <= unit && unit <= 0xDBFF
+}
+
+// Whether a code unit is a trailing surrogate.
+fn is_trail(unit: u16) -> bool
+    ensures { result ≡ is_trail unit }
+{
+    0xDC00 <= unit && unit <= 0xDFFF
+}
+
+// Whether a code unit is a surrogate.
+pub(crate) fn is_surrogate(unit: u16) -> bool
+    ensures { result ≡ is_surrogate unit }
+{
+    0xD800 <= unit && unit <= 0xDFFF
+}

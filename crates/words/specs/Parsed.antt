@@ -1,0 +1,73 @@
+-- Words whose charsets and encodings are found, and their texts.
+use Rattle.std.specs.Prelude.{ℕ, Option, Result, Ok, Err, List, [], ◌∷◌, ◌++◌, map, IsTrue, IfSome}
+use Rattle.std.specs.Option.{option_map, option_map_or}
+use Rattle.enc_front.specs.declared.names.Encoding as front
+use Rattle.enc_front.specs.Indexes.{Indexes, known}
+use Rattle.enc_front.specs.Charsets as charsets
+use Rattle.enc_front.specs.Charsets.{charset, marked_text, ascii_text}
+use Rattle.words.specs.declared.parser.Encoding.{Encoding}
+use Rattle.words.specs.declared.parser.ParserError.{ParserError}
+use Rattle.words.specs.declared.parser.ParsedEncodedWord.{ParsedEncodedWord}
+use Rattle.words.specs.declared.parser.ParsedEncodedWord.TheVariants as variant
+use Rattle.words.specs.Word.{Word}
+use Rattle.words.specs.Reading.{Part, Encoded, Clear, Gap}
+use Rattle.words.specs.Encoding.{encoding_of}
+use Rattle.words.specs.Header.{Text, clear_text, value_of, shown_value, join_texts}
+
+-- a part of a header after parsing: clear text, or a word by its charset, if that is known, its encoding and its text
+pub data Parsed : Type 0 where
+  ParsedClear : List ℕ → Parsed
+  ParsedWord : Option front.Encoding → Encoding → List ℕ → Parsed
+
+-- what a parsed word shows
+abbrev pub parsed_of : ParsedEncodedWord → Parsed
+parsed_of (variant.ClearText text) = ParsedClear text.items
+parsed_of (variant.EncodedWord found encoding text) = ParsedWord (option_map charsets.encoding_of found) encoding text.items
+
+-- the charset of a parsed word is one that the indexes have
+abbrev pub IsKnown : Indexes → ParsedEncodedWord → Type 0
+IsKnown indexes (variant.ClearText text) = Unit {0}
+IsKnown indexes (variant.EncodedWord found encoding text) = IfSome found (λ charset. IsTrue (known (charsets.encoding_of charset) indexes))
+
+-- a word under its encoding, or the error that its encoding field has
+abbrev pub under_encoding : Option front.Encoding → List ℕ → Result Encoding ParserError → Result Parsed ParserError
+under_encoding found text (Ok encoding) = Ok (ParsedWord found encoding text)
+under_encoding found text (Err error) = Err error
+
+-- a word as it is parsed: RFC 2047, sections 3 and 4
+abbrev pub parsed_word : Indexes → Word → Result Parsed ParserError
+parsed_word indexes w = under_encoding (charset w.charset indexes) w.text (encoding_of w.encoding)
+
+-- a part as it is parsed
+abbrev pub parsed_part : Indexes → Part → Result Parsed ParserError
+parsed_part indexes (Encoded w) = parsed_word indexes w
+parsed_part indexes (Clear text) = Ok (ParsedClear text)
+parsed_part indexes (Gap text) = Ok (ParsedClear text)
+
+-- parsed parts before others; an error stands
+abbrev pub before_parsed : List Parsed → Result (List Parsed) ParserError → Result (List Parsed) ParserError
+before_parsed front (Ok rest) = Ok (front ++ rest)
+before_parsed front (Err error) = Err error
+
+-- one parsed part, or its error, before others
+abbrev pub then_parsed : Result Parsed ParserError → Result (List Parsed) ParserError → Result (List Parsed) ParserError
+then_parsed (Ok first) rest = before_parsed (first ∷ []) rest
+then_parsed (Err error) rest = Err error
+
+-- parts as they are parsed, in order, or the error of the first encoding field that has one
+abbrev pub parsed_parts : Indexes → List Part → Result (List Parsed) ParserError
+parsed_parts indexes [] = Ok []
+parsed_parts indexes (part ∷ rest) = then_parsed (parsed_part indexes part) (parsed_parts indexes rest)
+
+-- bytes in a charset, or in ASCII where the charset is unknown
+abbrev pub in_charset : Option front.Encoding → Indexes → List ℕ → List ℕ
+in_charset found indexes bytes = option_map_or (λ encoding. marked_text encoding indexes bytes) found (ascii_text bytes)
+
+-- the text of a parsed part
+abbrev pub parsed_text : Indexes → Parsed → Text
+parsed_text indexes (ParsedClear text) = clear_text text
+parsed_text indexes (ParsedWord found encoding text) = shown_value (in_charset found indexes) (value_of encoding text)
+
+-- the texts of parsed parts joined, or the first fault among them
+abbrev pub parsed_texts : Indexes → List Parsed → Text
+parsed_texts indexes parts = join_texts (map (parsed_text indexes) parts)
