@@ -48,7 +48,8 @@ def q_words(count):
 
 def b_words(count):
     """`count` B words with a space between, 72 bytes each with it."""
-    word = b"=?utf-8?B?" + base64.b64encode(b"Keith Moore <moore@cs.utk.edu>, one of the") + b"abc=?="
+    text = b"Keith Moore <moore@cs.utk.edu>, and some more"
+    word = b"=?utf-8?B?" + base64.b64encode(text) + b"?="
     assert len(word) == 72
     return b" ".join([word] * count)
 
