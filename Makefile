@@ -12,8 +12,8 @@ build: $(PROGRAM)
 
 # `rt run` proves the crates, links the program and runs it once, here on empty input.
 $(PROGRAM): $(SOURCES)
-	cd crates/unwrap && rt run -- unwrap < /dev/null
-	touch $(PROGRAM)
+	@cd crates/unwrap && rt run -- unwrap < /dev/null >&2
+	@touch $(PROGRAM)
 
 run: build
 	@$(PROGRAM) $(ARGS)
