@@ -1,10 +1,11 @@
 -- A copy of code units, one scalar at a time.
 use Rattle.std.proofs.Common.{◌≡◌, ℕ, ◌+◌, ◌-◌, ◌*◌, ◌/◌, ◌<◌, ◌≤◌, Bool, true, false, cond, ltb, Some, None, length-take, List, [], ◌∷◌, ◌++◌, length, take, get_or, refl, sym, ap, ◌∙◌, arith, length-append, ◌&&◌, ◌⊎◌, ⊎_elim, inl, inr}
-use Rattle.std.proofs.lemmas.Bool.{and_right, true≢false}
+use Rattle.std.proofs.lemmas.Bool.{and_right}
 use Rattle.std.proofs.lemmas.Grind.{flat_map-append}
-use Rattle.std.proofs.lemmas.List.{append-nil}
+use Rattle.std.proofs.lemmas.List.{append-nil, take-append-le, take_all}
+use Rattle.std.proofs.Math.Nat.{eq-or-lt_of_le}
 use Rattle.std.specs.Char.Escape.{encode_utf16}
-use Rattle.enc_handles.specs.Copies.{CopiesUnits, CopiesUtf16}
+use Rattle.enc_handles.specs.Copies.{HasRoomBeforeEach, CopiesUnits, CopiesUtf16}
 use Rattle.enc_handles.specs.Reading.{Reading, after_reading}
 use Rattle.enc_handles.specs.Utf16.{is_lead, code_units, without_last_lead, utf16_window, TakesWhatFits, encode_utf16_all, HasScalarAt, BeginsNoPair, WindowFits}
 use Rattle.enc_handles.specs.Utf8.{AreScalars, text_of}
@@ -23,7 +24,7 @@ pub record Copied16 (form : ℕ → List ℕ) (window : List ℕ) (needed : ℕ)
   pub before : (ltb 0 read && is_lead (get_or window (read - 1) 0)) ≡ false
   pub written : w ≡ after_writing w₀ (text_of form scalars)
   pub room : length (text_of form scalars) + w.free ≡ w₀.free
-  pub started : w₀.free < needed → scalars ≡ []
+  pub enough : HasRoomBeforeEach form needed w₀.free scalars
 
 pub copied16_none : (form : ℕ → List ℕ) (window : List ℕ) (needed : ℕ) (w : Writing) → Copied16 form window needed w w 0 []
 copied16_none form window needed w = record {
@@ -37,8 +38,18 @@ copied16_none form window needed w = record {
       let free : w.free ≡ w.free - 0 = omega arith in
       ap (λ (t : List ℕ). record w { text = t }) text ∙ ap (λ (n : ℕ). record w { text = w.text ++ []; free = n }) free;
   room = omega arith;
-  started = λ _. refl;
+  enough = λ k below. absurd (omega (arith, below));
 }
+
+enough-push : (form : ℕ → List ℕ) (needed free : ℕ) (scalars : List ℕ) (c : ℕ)
+    → HasRoomBeforeEach form needed free scalars → length (text_of form scalars) + needed ≤ free
+    → HasRoomBeforeEach form needed free (scalars ++ c ∷ [])
+enough-push form needed free scalars c before last k below =
+    let within : k ≤ length scalars = omega (arith, below, length-append scalars (c ∷ [])) in
+    let same : take k (scalars ++ c ∷ []) ≡ take k scalars = take-append-le k scalars (c ∷ []) within in
+    rw same (⊎_elim
+    (λ (last_one : k ≡ length scalars). rw last_one (rw (take_all (length scalars) scalars (omega arith)) last))
+    (λ (earlier : k < length scalars). before k earlier) (eq-or-lt_of_le within))
 
 pub copied16_more : (form : ℕ → List ℕ) (window : List ℕ) (needed : ℕ) (w₀ w w' : Writing) (read : ℕ) (scalars : List ℕ) (c n : ℕ)
     → Copied16 form window needed w₀ w read scalars → HasScalarAt window read c n
@@ -62,7 +73,7 @@ copied16_more form window needed w₀ w w' read scalars c n so_far here written 
       before = and_right (ltb 0 (read + n)) (is_lead (get_or window (read + n - 1) 0)) here.end;
       written = written ∙ (ap (λ v. after_writing v (form c)) so_far.written ∙ (after_writing-append w₀ (text_of form scalars) (form c) ∙ ap (after_writing w₀) (sym text)));
       room = omega (arith, so_far.room);
-      started = λ short. absurd (omega (arith, so_far.room));
+      enough = enough-push form needed w₀.free scalars c so_far.enough (omega (arith, so_far.room, enough));
     }
 
 same_length : (form : ℕ → List ℕ) → ((c : ℕ) → length (form c) ≡ length (encode_utf16 c)) → (cs : List ℕ) → length (text_of form cs) ≡ length (encode_utf16_all cs)
@@ -85,8 +96,8 @@ ends_window form window needed w₀ w read scalars so_far cause = record {
   scalars = scalars;
   each = so_far.each;
   front = rw (← so_far.count) so_far.front;
+  room = so_far.enough;
   written = so_far.written;
-  nothing = λ short. (so_far.started short, refl);
   within = so_far.within;
   stopped = (so_far.count, cause);
 }
@@ -97,10 +108,10 @@ ends_unpaired form window needed w₀ w read scalars so_far below enough here = 
   scalars = scalars;
   each = so_far.each;
   front = rw (← so_far.count) so_far.front;
+  room = so_far.enough;
   written = so_far.written;
-  nothing = λ short. absurd (omega (arith, so_far.room));
   within = omega arith;
-  stopped = (ap (λ n. n + 1) so_far.count, rw (← so_far.count) (unpaired window read here so_far.before));
+  stopped = (ap (λ n. n + 1) so_far.count, (rw (← so_far.count) (unpaired window read here so_far.before), enough));
 }
 
 -- the units that the copy works on are the window
@@ -129,8 +140,8 @@ copies16_none form window needed r r' w₀ w read units moved = record {
   scalars = units.scalars;
   each = units.each;
   front = units.front;
+  room = units.room;
   written = units.written;
-  nothing = λ short. ((units.nothing short).0, refl);
   stopped = record {
     read = moved ∙ ap (λ (n : ℕ). after_reading r (2 * n)) units.stopped.0;
     cause = ⊎_elim (λ whole. inl (sym units.stopped.0 ∙ whole)) (λ short. inr short) units.stopped.1;
@@ -144,12 +155,13 @@ copies16_some form window needed r r' w₀ w read places units moved source dest
   scalars = units.scalars;
   each = units.each;
   front = units.front;
+  room = units.room;
   written = units.written;
-  nothing = λ short. absurd (true≢false (units.nothing short).1);
   stopped = record {
     read = moved ∙ ap (λ (n : ℕ). after_reading r (2 * n)) units.stopped.0;
     within = omega (arith, units.within, units.stopped.0);
-    unpaired = units.stopped.1;
+    unpaired = units.stopped.1.0;
+    room = units.stopped.1.1;
     source_place = source;
     destination_place = destination;
   };

@@ -3,8 +3,7 @@ use Rattle.std.proofs.Common.{◌≡◌, ℕ, ◌+◌, ◌-◌, ◌<◌, List, [
 use Rattle.std.proofs.Math.Seq.{take-add}
 use Rattle.std.proofs.lemmas.Grind.{flat_map-append}
 use Rattle.std.proofs.lemmas.List.{drop-drop, take_more, append-nil}
-use Rattle.enc_handles.specs.Latin.{read_len}
-use Rattle.enc_handles.specs.Reading.{Reading, left, after_reading}
+use Rattle.enc_handles.specs.Reading.{Reading, left, after_reading, read_len}
 use Rattle.enc_handles.specs.Utf8.{text_of}
 use Rattle.enc_handles.specs.Writing.{Writing, after_writing}
 

@@ -1,5 +1,5 @@
 -- What the bulk copies move.
-use Rattle.std.specs.Prelude.{◌≡◌, ℕ, ◌+◌, ◌*◌, ◌<◌, ◌≤◌, ◌⊎◌, Bool, true, false, MatchBool, List, [], length, take, Option, None, MatchOption, encode_utf8_all}
+use Rattle.std.specs.Prelude.{◌≡◌, ℕ, ◌+◌, ◌*◌, ◌<◌, ◌≤◌, ◌⊎◌, Bool, true, MatchBool, List, length, take, Option, MatchOption, encode_utf8_all}
 use Rattle.enc_handles.specs.Reading.{Reading, left, after_reading}
 use Rattle.enc_handles.specs.Utf16.{encode_utf16_all, is_unpaired_at}
 use Rattle.enc_handles.specs.Utf8.{AreScalars, text_of, IsLongestFront}
@@ -17,33 +17,41 @@ pub record StopsBehind (window : List ℕ) (needed : ℕ) (old new : Reading) (a
   pub read : new ≡ after_reading old (2 * n)
   pub cause : (n ≡ length window) ⊎ (after.free < needed)
 
--- n units and the unpaired surrogate behind them were read, and the places are those of source and destination
-pub record ReadsUnpaired (window : List ℕ) (old new : Reading) (after : Writing) (places : ℕ × ℕ) (n : ℕ) : Type 0 where
+-- n units and the unpaired surrogate behind them were read with the needed room left, and the places are those of
+-- source and destination
+pub record ReadsUnpaired (window : List ℕ) (needed : ℕ) (old new : Reading) (after : Writing) (places : ℕ × ℕ) (n : ℕ) : Type 0 where
   pub read : new ≡ after_reading old (2 * (n + 1))
   pub within : n < length window
   pub unpaired : is_unpaired_at window n ≡ true
+  pub room : needed ≤ after.free
   pub source_place : places.0 ≡ new.place
   pub destination_place : places.1 ≡ length after.text
 
--- a front of the window was read that is the UTF-16 of scalars, and their text was written; then the window
--- ended, or less than the needed room was left, or an unpaired surrogate was read behind them
+-- before each of these scalars at least the needed room was left: what stands before the one at place k and that
+-- room fit
+abbrev pub HasRoomBeforeEach : (ℕ → List ℕ) → ℕ → ℕ → List ℕ → Type 0
+HasRoomBeforeEach form needed free scalars =
+    (k : ℕ) → k < length scalars → length (text_of form (take k scalars)) + needed ≤ free
+
+-- a front of the window was read that is the UTF-16 of scalars, each of which found the needed room, and their text
+-- was written; then the window ended, or less than the needed room was left, or an unpaired surrogate was read
 pub record CopiesUtf16 (form : ℕ → List ℕ) (window : List ℕ) (needed : ℕ) (old new : Reading) (before after : Writing) (result : Option (ℕ × ℕ)) : Type 0 where
   pub scalars : List ℕ
   pub each : AreScalars scalars
   pub front : take (length (encode_utf16_all scalars)) window ≡ encode_utf16_all scalars
+  pub room : HasRoomBeforeEach form needed before.free scalars
   pub written : after ≡ after_writing before (text_of form scalars)
-  pub nothing : before.free < needed → (scalars ≡ []) × (result ≡ None)
   pub stopped : MatchOption result (StopsBehind window needed old new after (length (encode_utf16_all scalars)))
-      (λ places. ReadsUnpaired window old new after places (length (encode_utf16_all scalars)))
+      (λ places. ReadsUnpaired window needed old new after places (length (encode_utf16_all scalars)))
 
 -- the same of the units alone, of which so many were read
 pub record CopiesUnits (form : ℕ → List ℕ) (window : List ℕ) (needed : ℕ) (before after : Writing) (read : ℕ) (unpaired : Bool) : Type 0 where
   pub scalars : List ℕ
   pub each : AreScalars scalars
   pub front : take (length (encode_utf16_all scalars)) window ≡ encode_utf16_all scalars
+  pub room : HasRoomBeforeEach form needed before.free scalars
   pub written : after ≡ after_writing before (text_of form scalars)
-  pub nothing : before.free < needed → (scalars ≡ []) × (unpaired ≡ false)
   pub within : read ≤ length window
   pub stopped : MatchBool unpaired
-      ((read ≡ length (encode_utf16_all scalars) + 1) × (is_unpaired_at window (length (encode_utf16_all scalars)) ≡ true))
+      ((read ≡ length (encode_utf16_all scalars) + 1) × ((is_unpaired_at window (length (encode_utf16_all scalars)) ≡ true) × (needed ≤ after.free)))
       ((read ≡ length (encode_utf16_all scalars)) × ((read ≡ length window) ⊎ (after.free < needed)))

@@ -2,7 +2,6 @@ pub mod Ascii
 pub mod ByteSource
 pub mod Copies
 pub mod Destination
-pub mod Latin
 pub mod Reading
 pub mod Room
 pub mod Rooms

@@ -1,5 +1,5 @@
 -- Well-formed UTF-8 by the table of its sequences, and the text of a row of scalars.
--- Encoding Standard, section 9 (UTF-8): the decoder's bounds are the rows of the Unicode Standard, table 3-7.
+-- Encoding Standard, section 8.1.1 (UTF-8 decoder): its bounds are the rows of the Unicode Standard, table 3-7.
 use Rattle.std.specs.Prelude.{◌≡◌, ℕ, ◌+◌, ◌*◌, ◌-◌, ◌≤◌, Bool, true, ◌&&◌, List, length, take, slice_index, nat_le, nat_lt, ◌==◌, if◌then◌else◌, encode_utf8_all}
 use Rattle.std.specs.Str.{all_scalars}
 use Rattle.std.specs.List.{flat_map}

@@ -2,10 +2,9 @@
 ghost use Rattle.std.specs.Prelude.{◌≡◌, ◌-◌, length, take, encode_utf8};
 ghost use Rattle.enc_handles.specs.ByteSource.{reading};
 ghost use Rattle.enc_handles.specs.Destination.{writing};
-ghost use Rattle.enc_handles.specs.Reading.{left, after_reading};
+ghost use Rattle.enc_handles.specs.Reading.{left, after_reading, read_len};
 ghost use Rattle.enc_handles.specs.Utf8.{text_of};
 ghost use Rattle.enc_handles.specs.Writing.{after_writing};
-ghost use Rattle.enc_handles.specs.Latin.{read_len};
 
 use crate::byte_slice::ByteSlice;
 use crate::byte_source::{ByteSource, ByteSourceOver};

@@ -1,4 +1,4 @@
-use Rattle.std.proofs.Common.{◌≡◌, ◌+◌, ◌<◌, min, ap, sym, ◌∙◌, arith, rules, length, get_or}
+use Rattle.std.proofs.Common.{◌≡◌, ◌+◌, ◌<◌, ◌∙◌, arith, rules, length, get_or}
 use Rattle.enc_handles.specs.Ascii.{moved_len, moved_text, ascii_len}
 use Rattle.enc_handles.specs.ByteSource.{reading}
 use Rattle.enc_handles.specs.Destination.{writing}

@@ -1,8 +1,7 @@
-use Rattle.std.proofs.Common.{◌≡◌, ◌-◌, length, take}
+use Rattle.std.proofs.Common.{◌≡◌, length, take}
 use Rattle.enc_handles.specs.ByteSource.{reading}
 use Rattle.enc_handles.specs.Destination.{writing}
-use Rattle.enc_handles.specs.Latin.{read_len}
-use Rattle.enc_handles.specs.Reading.{left, after_reading}
+use Rattle.enc_handles.specs.Reading.{left, after_reading, read_len}
 use Rattle.enc_handles.specs.Utf8.{text_of}
 use Rattle.enc_handles.specs.Writing.{after_writing}
 use Rattle.enc_handles.proofs.pattern.decode_latin1.Given as goal
