@@ -241,14 +241,20 @@ fn copied_utf8_to_utf16(src: &[u8], dst: &mut [u16]) -> (usize, usize) {
 
 #[test]
 fn utf8_is_copied_up_to_an_invalid_sequence(rt: HostRuntime) {
-    let cases: [(&[u8], usize); 14] = [
+    let cases: [(&[u8], usize); 20] = [
         (
             &[0x61, 0xC3, 0xA4, 0xE2, 0x82, 0xAC, 0xF0, 0x9F, 0x98, 0x80],
             10,
         ),
         (&[0x61, 0xC3], 1),
+        (&[0x61, 0xE2], 1),
         (&[0x61, 0xE2, 0x82], 1),
+        (&[0x61, 0xF0], 1),
+        (&[0x61, 0xF0, 0x9F], 1),
         (&[0x61, 0xF0, 0x9F, 0x98], 1),
+        (&[0x61, 0xC3, 0x61], 1),
+        (&[0x61, 0xF0, 0x9F, 0x61, 0x80], 1),
+        (&[0xC3, 0xA4, 0xFF], 2),
         (&[0x80], 0),
         (&[0xC1, 0xBF], 0),
         (&[0xE0, 0x9F, 0x80], 0),
@@ -272,6 +278,13 @@ fn utf8_is_copied_as_far_as_there_is_room(rt: HostRuntime) {
     for (room, read) in [(0usize, 0usize), (1, 1), (2, 1), (3, 1), (4, 1), (5, 5)] {
         let mut buffer = [0u8; 5];
         assert_eq!(rt; copied_utf8(&bytes, &mut buffer[..room]), (read, read));
+    }
+    for (room, read) in [(0usize, 0usize), (1, 0), (2, 2), (3, 2), (4, 2), (5, 5)] {
+        let mut buffer = [0u8; 5];
+        assert_eq!(rt;
+            copied_utf8(&[0xC3, 0xA4, 0xE2, 0x82, 0xAC], &mut buffer[..room]),
+            (read, read)
+        );
     }
     for (room, answer) in [
         (0usize, (0usize, 0usize)),
@@ -330,6 +343,34 @@ fn utf16_is_copied_to_utf8(rt: HostRuntime) {
     assert_eq!(rt;
         copied_utf16::<LittleEndian>(&[0x61, 0], &mut buffer[..3]),
         (None, 0, 0)
+    );
+}
+
+#[test]
+fn a_copy_of_utf16_to_utf8_stops_below_four_free_bytes(rt: HostRuntime) {
+    for (room, read, written) in [
+        (0usize, 0usize, 0usize),
+        (3, 0, 0),
+        (4, 2, 1),
+        (5, 4, 3),
+        (6, 4, 3),
+        (7, 6, 4),
+        (8, 6, 4),
+    ] {
+        let mut buffer = [0u8; 8];
+        assert_eq!(rt;
+            copied_utf16::<LittleEndian>(&[0x61, 0, 0xE4, 0, 0x62, 0], &mut buffer[..room]),
+            (None, read, written)
+        );
+    }
+    let mut buffer = [0u8; 5];
+    assert_eq!(rt;
+        copied_utf16::<LittleEndian>(&[0x61, 0, 0, 0xDC], &mut buffer[..4]),
+        (None, 2, 1)
+    );
+    assert_eq!(rt;
+        copied_utf16::<LittleEndian>(&[0x61, 0, 0, 0xDC], &mut buffer),
+        (Some((4, 1)), 4, 1)
     );
 }
 
