@@ -2,13 +2,13 @@
 use Rattle.std.proofs.Common.{◌≡◌, ℕ, ◌+◌, ◌-◌, ◌/◌, ◌%◌, ◌<◌, ◌≤◌, Bool, true, false, ltb, List, [], ◌∷◌, ◌++◌, length, refl, arith, inl, inr}
 use Rattle.std.specs.Prelude.{◌⊎◌}
 use Rattle.std.specs.Char.{IsScalar}
+use lib.Utf8.{scalar_cases}
 use Rattle.std.proofs.lemmas.Bool.{ltb-false}
 use Rattle.std.proofs.lemmas.Bool.Decides.{nat_tests}
 use Rattle.enc_handles.specs.Utf16.{code_unit, is_lead, is_trail, pair_scalar}
 use Rattle.enc_drivers.specs.declared.Mode.{Mode}
 use Rattle.enc_drivers.specs.Units.{scalar_at}
 use Rattle.enc_drivers.specs.Utf16.{utf16_unit, unit_bytes, scalar_bytes}
-use Rattle.enc_drivers.proofs.Utf8RoundTrip.{scalar_parts}
 
 single_read : (big : Bool) (mode : Mode) (a b c : ℕ) (rest : List ℕ) → code_unit big a b ≡ c → is_lead c ≡ false → is_trail c ≡ false → utf16_unit big mode (a ∷ b ∷ rest) ≡ scalar_at mode c 2
 unfolding utf16_unit
@@ -62,7 +62,7 @@ module _ (mode : Mode) (c : ℕ) (rest : List ℕ) where
 -- what is written of a scalar is read as it, whatever follows
 pub utf16_round_trip : (big : Bool) (mode : Mode) (c : ℕ) (rest : List ℕ) → IsScalar c → utf16_unit big mode (scalar_bytes big c ++ rest) ≡ scalar_at mode c (length (scalar_bytes big c))
 unfolding scalar_bytes
-utf16_round_trip big mode c rest h = by_tests big (ltb c 0x10000) refl (scalar_parts c h)
+utf16_round_trip big mode c rest h = by_tests big (ltb c 0x10000) refl (scalar_cases c h)
   where
     by_tests : (big : Bool) (p : Bool) → ltb c 0x10000 ≡ p → (c < 0xD800) ⊎ ((0xE000 ≤ c) × (c < 0x110000)) → utf16_unit big mode (scalar_bytes big c ++ rest) ≡ scalar_at mode c (length (scalar_bytes big c))
     by_tests true true e s = rw e (one_unit mode c rest true (outside c s))

@@ -1,12 +1,70 @@
 -- A malformed unit covers the longest front that begins some well-formed sequence.
-use Rattle.std.proofs.Common.{◌≡◌, ℕ, ◌+◌, ◌<◌, ◌≤◌, Bool, true, false, List, [], ◌∷◌, ◌++◌, length, get_or, take, refl, sym, ◌∙◌, arith, inl, inr, ⊎_elim, subst, length-append}
+use Rattle.std.proofs.Common.{◌≡◌, ℕ, ◌+◌, ◌<◌, ◌≤◌, Bool, true, false, ltb, List, [], ◌∷◌, ◌++◌, length, get_or, take, refl, sym, ◌∙◌, arith, inl, inr, ⊎_elim, subst, length-append}
 use Rattle.std.specs.Prelude.{◌⊎◌, ◌&&◌, ◌||◌}
-use Rattle.std.proofs.lemmas.Bool.{cases_lt, and_parts, and_from, or_cases, both_ways}
+use Rattle.std.proofs.lemmas.Bool.{cases_lt, and_parts, and_from, or_cases, both_ways, lt-ltb, le-leb}
 use Rattle.std.proofs.lemmas.List.{get_or_append_left, get_or-append-add, get_or-take, length-take-le}
 use Rattle.enc_handles.specs.Utf8.{byte_in, is_tail_at, begins_two, begins_three, begins_four, sequence_len}
 use Rattle.enc_drivers.specs.Utf8.{begins_pair, two_of_three, two_of_four, malformed_len, BeginsSequence, IsLongestBegun}
-use Rattle.enc_drivers.proofs.Utf8Lemmas.{ByteAt, Three, Four, Row, NoRow, no_row, one, two, three_e0, three_e1, three_ed, three_ee, four_f0, four_f1, four_f4, row_of, byte_at, both, three, four}
-use Rattle.enc_drivers.proofs.Utf8RoundTrip.{byte_in_from, two_from, three_from, four_from, kind_of, len_three, len_four}
+use Rattle.enc_drivers.specs.Lemmas.Utf8Law.{ByteAt, Three, Four, Row, NoRow, no_row, one, two, three_e0, three_e1, three_ed, three_ee, four_f0, four_f1, four_f4, row_of, byte_at, both, three, four}
+
+-- tests from facts
+byte_in_from : (bytes : List ℕ) (k low high : ℕ) → k < length bytes → low ≤ get_or bytes k 0 → get_or bytes k 0 ≤ high → byte_in bytes k low high ≡ true
+byte_in_from bytes k low high within l h =
+    and_from (ltb k (length bytes)) _ (lt-ltb k (length bytes) within) (and_from _ _ (le-leb low (get_or bytes k 0) l) (le-leb (get_or bytes k 0) high h))
+
+two_from : (bytes : List ℕ) (low high : ℕ) → 1 < length bytes → low ≤ get_or bytes 0 0 → get_or bytes 0 0 ≤ high → 0x80 ≤ get_or bytes 1 0 → get_or bytes 1 0 ≤ 0xBF → begins_two bytes low high ≡ true
+two_from bytes low high within a b c d =
+    and_from (byte_in bytes 0 low high) (is_tail_at bytes 1) (byte_in_from bytes 0 low high (omega arith) a b) (byte_in_from bytes 1 0x80 0xBF within c d)
+
+three_from : (bytes : List ℕ) (low high second_low second_high : ℕ) → 2 < length bytes → low ≤ get_or bytes 0 0 → get_or bytes 0 0 ≤ high → second_low ≤ get_or bytes 1 0 → get_or bytes 1 0 ≤ second_high
+    → 0x80 ≤ get_or bytes 2 0 → get_or bytes 2 0 ≤ 0xBF → begins_three bytes low high second_low second_high ≡ true
+three_from bytes low high second_low second_high within a b c d e f =
+    and_from (byte_in bytes 0 low high) _ (byte_in_from bytes 0 low high (omega arith) a b)
+    (and_from (byte_in bytes 1 second_low second_high) (is_tail_at bytes 2) (byte_in_from bytes 1 second_low second_high (omega arith) c d) (byte_in_from bytes 2 0x80 0xBF within e f))
+
+four_from : (bytes : List ℕ) (low high second_low second_high : ℕ) → 3 < length bytes → low ≤ get_or bytes 0 0 → get_or bytes 0 0 ≤ high → second_low ≤ get_or bytes 1 0 → get_or bytes 1 0 ≤ second_high
+    → 0x80 ≤ get_or bytes 2 0 → get_or bytes 2 0 ≤ 0xBF → 0x80 ≤ get_or bytes 3 0 → get_or bytes 3 0 ≤ 0xBF → begins_four bytes low high second_low second_high ≡ true
+four_from bytes low high second_low second_high within a b c d e f g h =
+    and_from (byte_in bytes 0 low high) _ (byte_in_from bytes 0 low high (omega arith) a b)
+    (and_from (byte_in bytes 1 second_low second_high) _ (byte_in_from bytes 1 second_low second_high (omega arith) c d)
+    (and_from (is_tail_at bytes 2) (is_tail_at bytes 3) (byte_in_from bytes 2 0x80 0xBF (omega arith) e f) (byte_in_from bytes 3 0x80 0xBF within g h)))
+
+-- how long the sequence at the front is, and where its first byte lies
+data Kind (bytes : List ℕ) : Type 0 where
+  kind_none : NoRow bytes → Kind bytes
+  kind_one : sequence_len bytes ≡ 1 → get_or bytes 0 0 ≤ 0x7F → Kind bytes
+  kind_two : sequence_len bytes ≡ 2 → 0xC2 ≤ get_or bytes 0 0 → get_or bytes 0 0 ≤ 0xDF → Kind bytes
+  kind_three : sequence_len bytes ≡ 3 → 0xE0 ≤ get_or bytes 0 0 → get_or bytes 0 0 ≤ 0xEF → Kind bytes
+  kind_four : sequence_len bytes ≡ 4 → 0xF0 ≤ get_or bytes 0 0 → get_or bytes 0 0 ≤ 0xF4 → Kind bytes
+
+kind_of : (bytes : List ℕ) → Row bytes → Kind bytes
+kind_of bytes (no_row e none) = kind_none none
+kind_of bytes (one e t) = kind_one e (byte_at bytes 0 0x00 0x7F t).high_end
+kind_of bytes (two e t) =
+    let b = byte_at bytes 0 0xC2 0xDF (and_parts (byte_in bytes 0 0xC2 0xDF) (is_tail_at bytes 1) t).0 in
+    kind_two e b.low_end b.high_end
+kind_of bytes (three_e0 e t) = let f = (three bytes 0xE0 0xE0 0xA0 0xBF t).first in kind_three e (omega (arith, f.low_end)) (omega (arith, f.high_end))
+kind_of bytes (three_e1 e t) = let f = (three bytes 0xE1 0xEC 0x80 0xBF t).first in kind_three e (omega (arith, f.low_end)) (omega (arith, f.high_end))
+kind_of bytes (three_ed e t) = let f = (three bytes 0xED 0xED 0x80 0x9F t).first in kind_three e (omega (arith, f.low_end)) (omega (arith, f.high_end))
+kind_of bytes (three_ee e t) = let f = (three bytes 0xEE 0xEF 0x80 0xBF t).first in kind_three e (omega (arith, f.low_end)) (omega (arith, f.high_end))
+kind_of bytes (four_f0 e t) = let f = (four bytes 0xF0 0xF0 0x90 0xBF t).three.first in kind_four e (omega (arith, f.low_end)) (omega (arith, f.high_end))
+kind_of bytes (four_f1 e t) = let f = (four bytes 0xF1 0xF3 0x80 0xBF t).three.first in kind_four e (omega (arith, f.low_end)) (omega (arith, f.high_end))
+kind_of bytes (four_f4 e t) = let f = (four bytes 0xF4 0xF4 0x80 0x8F t).three.first in kind_four e (omega (arith, f.low_end)) (omega (arith, f.high_end))
+
+-- the length, where one row holds and the first byte leaves no other length
+len_three : (bytes : List ℕ) → Kind bytes → (NoRow bytes → ⊥) → 0xE0 ≤ get_or bytes 0 0 → get_or bytes 0 0 ≤ 0xEF → sequence_len bytes ≡ 3
+len_three bytes (kind_none none) some a b = absurd (some none)
+len_three bytes (kind_one e h) some a b = absurd (omega arith)
+len_three bytes (kind_two e l h) some a b = absurd (omega arith)
+len_three bytes (kind_three e l h) some a b = e
+len_three bytes (kind_four e l h) some a b = absurd (omega arith)
+
+len_four : (bytes : List ℕ) → Kind bytes → (NoRow bytes → ⊥) → 0xF0 ≤ get_or bytes 0 0 → sequence_len bytes ≡ 4
+len_four bytes (kind_none none) some a = absurd (some none)
+len_four bytes (kind_one e h) some a = absurd (omega arith)
+len_four bytes (kind_two e l h) some a = absurd (omega arith)
+len_four bytes (kind_three e l h) some a = absurd (omega arith)
+len_four bytes (kind_four e l h) some a = e
 
 -- the front of k bytes and what is put behind it agree with the bytes below k
 same_byte : (bytes more : List ℕ) (k i : ℕ) → i < k → k ≤ length bytes → get_or (take k bytes ++ more) i 0 ≡ get_or bytes i 0
@@ -238,6 +296,7 @@ some_malformed bytes = by_tests (two_of_four bytes && is_tail_at bytes 2) refl (
 
 pub malformed_law : (bytes : List ℕ) → 0 < length bytes → sequence_len bytes ≡ 0 → IsLongestBegun bytes (malformed_len bytes)
 malformed_law bytes some z = record {
+  some = some_malformed bytes;
   begun = begins bytes;
   longest = λ k longer b. no_longer bytes z k longer (some_malformed bytes) b.0 b.1.0 (row_of (take k bytes ++ b.1.0)) (none_of bytes (row_of bytes) z) b.1.1;
 }

@@ -1,3 +1,4 @@
+pub mod Lemmas
 pub mod SingleByte
 pub mod Units
 pub mod Utf16

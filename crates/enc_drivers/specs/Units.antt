@@ -53,14 +53,18 @@ text us = flat_map (λ u. item_text u.0) us
 abbrev pub AreBytes : List ℕ → Type 0
 AreBytes bytes = All (λ b. b < 256) bytes
 
--- the item's scalars are scalars
+-- a scalar of two bytes in UTF-8: U+0080 to U+07FF
+abbrev pub IsOfTwoBytes : ℕ → Type 0
+IsOfTwoBytes scalar = (0x80 ≤ scalar) × (scalar < 0x800)
+
+-- the item's scalars are scalars, and those of a pair have two bytes each (of the four pairs of Big5, Encoding Standard, section 12.1.1, each has)
 abbrev pub HasScalars : Item → Type 0
 HasScalars (One scalar) = IsScalar scalar
-HasScalars (Two first second) = IsScalar first × IsScalar second
+HasScalars (Two first second) = IsOfTwoBytes first × IsOfTwoBytes second
 HasScalars Malformed = ⊤
 HasScalars Silent = ⊤
 
--- what the unit at the front of a rest keeps: it has one to four of the rest's bytes, its scalars are scalars, and its text has at most three bytes for each of its bytes
+-- what the unit at the front of a rest keeps: it has one to four of the rest's bytes, its scalars are scalars and small in a pair, and its text has at most three bytes for each of its bytes
 pub record IsUnitOf (rest : List ℕ) (u : UnitAt) : Type 0 where
   pub some : 1 ≤ u.len
   pub four : u.len ≤ 4

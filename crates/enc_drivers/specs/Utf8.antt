@@ -40,7 +40,8 @@ utf8_unit mode rest =
 abbrev pub BeginsSequence : List ℕ → ℕ → Type 0
 BeginsSequence bytes n = (n ≤ length bytes) × ((more : List ℕ) × (n ≤ sequence_len (take n bytes ++ more)))
 
--- of more than one byte, n is the greatest number that begin a sequence
+-- n is one or more; of more than one byte, n is the greatest number that begin a sequence
 pub record IsLongestBegun (bytes : List ℕ) (n : ℕ) : Type 0 where
+  pub some : 1 ≤ n
   pub begun : 1 < n → BeginsSequence bytes n
   pub longest : (k : ℕ) → n < k → ¬ BeginsSequence bytes k

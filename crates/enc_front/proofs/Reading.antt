@@ -18,9 +18,10 @@ use Rattle.enc_drivers.specs.declared.Mode.TheVariants.{Plain}
 use Rattle.enc_drivers.specs.Units.{scalar_at, malformed_at, IsCode, IsUnitOf, AreBytes, units, text, item_text, replacement}
 use Rattle.enc_drivers.specs.SingleByte.{windows_1252_scalar, windows_1252_unit, user_defined_scalar, user_defined_unit}
 use Rattle.enc_drivers.proofs.UnitLemmas.{units_nil, units_some, text-cons, text_nil}
-use Rattle.enc_drivers.proofs.Utf8Lemmas.{row_of, sequence_unit, utf8_law}
-use Rattle.enc_drivers.proofs.Utf16Lemmas.{utf16_law}
-use Rattle.enc_drivers.proofs.SingleByteLemmas.{windows_1252_law, user_defined_law}
+use Rattle.enc_handles.proofs.Sequences.{sequence-Decodes}
+use Rattle.enc_drivers.specs.Lemmas.Utf8Law.{utf8_law}
+use Rattle.enc_drivers.specs.Lemmas.Utf16Law.{utf16_law}
+use Rattle.enc_drivers.specs.Lemmas.SingleByteLaw.{windows_1252_law, user_defined_law}
 use Rattle.enc_front.specs.declared.names.Encoding.{Encoding}
 use Rattle.enc_front.specs.declared.names.Encoding.TheVariants.{Utf8, Utf16Be, Utf16Le, Windows1252, UserDefined, Single, Iso8859_8I, Gbk, Gb18030, Big5, EucJp, ShiftJis, EucKr}
 use Rattle.enc_front.specs.Charsets.{ascii_text, marked_text}
@@ -134,7 +135,7 @@ lead_answers big rest u v h is_u is_v k t =
 
 -- The scalar of a sequence is one.
 pub sequence_scalar_is : (bytes : List ℕ) → 0 < sequence_len bytes → IsScalar (sequence_scalar bytes)
-sequence_scalar_is bytes h = (sequence_unit Plain bytes (row_of bytes) h).scalars
+sequence_scalar_is bytes h = (sequence-Decodes bytes h).scalar
 
 -- Of a number that is a scalar, `char::from_u32` gives the scalar.
 pub some_scalar : (o : Option ℕ) (c : ℕ) → SomeIff o (IsScalar c) c → IsScalar c → IsSome o

@@ -17,10 +17,22 @@ is_built_in Utf16Be = true
 is_built_in Utf16Le = true
 is_built_in Windows1252 = true
 is_built_in UserDefined = true
-is_built_in _ = false
+is_built_in (Single name) = false
+is_built_in Iso8859_8I = false
+is_built_in Gbk = false
+is_built_in Gb18030 = false
+is_built_in Big5 = false
+is_built_in EucJp = false
+is_built_in ShiftJis = false
+is_built_in EucKr = false
 
 -- the kinds of index that an encoding needs
 abbrev pub kinds : Encoding → List IndexKind
+kinds Utf8 = []
+kinds Utf16Be = []
+kinds Utf16Le = []
+kinds Windows1252 = []
+kinds UserDefined = []
 kinds (Single single) = kind.Single single ∷ []
 kinds Iso8859_8I = kind.Single Iso8859_8 ∷ []
 kinds Gbk = kind.Gb18030 ∷ kind.Gb18030Ranges ∷ []
@@ -29,7 +41,6 @@ kinds Big5 = kind.Big5 ∷ []
 kinds EucJp = kind.Jis0208 ∷ kind.Jis0212 ∷ []
 kinds ShiftJis = kind.Jis0208 ∷ []
 kinds EucKr = kind.EucKr ∷ []
-kinds _ = []
 
 -- indexes: each kind at most once, with its pairs of a place and a scalar (for ranges, of a run's first place and first scalar)
 abbrev pub Indexes : Type 0

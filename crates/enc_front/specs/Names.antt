@@ -1,4 +1,7 @@
--- The names of the encodings and their labels (Encoding Standard, section 4.2, names and labels).
+-- The names of the encodings and their labels (Encoding Standard, section 4.2, names and labels): a subset of the standard's table.
+-- Left out as a whole are ISO-8859-3, ISO-8859-6, ISO-8859-10, ISO-8859-14, ISO-8859-16, x-mac-cyrillic, ISO-2022-JP and replacement; of the
+-- encodings that are here, the labels iso-ir-58, -110, -126, -138, -144, -148, -149, those that end in a colon and a year (but iso_8859-1:1987),
+-- csiso58gb231280, csiso88598e, csksc56011987, ecma-118, elot_928, greek8, iso-8859-8-e, ks_c_5601-1989, ms932, sun_eu_greek and visual.
 use Rattle.std.specs.Prelude.{ℕ, Bool, ◌-◌, ◌==◌, List, [], ◌∷◌, length, take, drop, codes, Option, find}
 use Rattle.std.specs.List.{slice_split, list_any, prefix_len, suffix_len}
 use Rattle.std.specs.Char.{is_ascii_whitespace}

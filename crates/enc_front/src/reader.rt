@@ -94,7 +94,14 @@ fn unit_at(encoding: Encoding, rest: &[u8]) -> (Item, usize)
         Encoding::Utf16Le => utf16_unit(false, rest),
         Encoding::Windows1252 => (Item::One(windows_1252_scalar(rest[0])), 1),
         Encoding::UserDefined => (Item::One(user_defined_scalar(rest[0])), 1),
-        _ => unreachable!(),
+        Encoding::Single(_)
+        | Encoding::Iso8859_8I
+        | Encoding::Gbk
+        | Encoding::Gb18030
+        | Encoding::Big5
+        | Encoding::EucJp
+        | Encoding::ShiftJis
+        | Encoding::EucKr => unreachable!(),
     }
 }
 

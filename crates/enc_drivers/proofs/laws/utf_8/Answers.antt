@@ -1,4 +1,4 @@
-use Rattle.enc_drivers.proofs.Utf8Lemmas.{utf8_law}
+use Rattle.enc_drivers.specs.Lemmas.Utf8Law.{utf8_law}
 use Rattle.enc_drivers.proofs.laws.utf_8.Goals as goal
 
 pub returns : goal.returns

@@ -1,4 +1,4 @@
-use Rattle.enc_drivers.proofs.SingleByteLemmas.{user_defined_law}
+use Rattle.enc_drivers.specs.Lemmas.SingleByteLaw.{user_defined_law}
 use Rattle.enc_drivers.proofs.laws.x_user_defined.Goals as goal
 
 pub returns : goal.returns

@@ -8,7 +8,7 @@ use Rattle.std.proofs.lemmas.List.Elements.{All-head}
 use Rattle.enc_drivers.specs.declared.Mode.{Mode}
 use Rattle.enc_drivers.specs.Units.{scalar_at, IsCode, IsUnitOf, AreBytes}
 use Rattle.enc_drivers.specs.SingleByte.{windows_1252_table, windows_1252_scalar, user_defined_scalar, windows_1252_unit, user_defined_unit}
-use Rattle.enc_drivers.proofs.Scalars.{scalar_low, scalar_high, encode_three}
+use Rattle.enc_drivers.specs.Lemmas.Scalars.{scalar_low, scalar_high, encode_three}
 
 -- each entry of a table, by a test that computes
 small_entry : (xs : List ℕ) → list_all (λ c. nat_lt c 0xD800) xs ≡ true → (k : ℕ) → get_or xs k 0 < 0xD800

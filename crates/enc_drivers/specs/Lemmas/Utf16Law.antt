@@ -9,7 +9,7 @@ use Rattle.enc_handles.specs.Utf16.{code_unit, is_lead, is_trail, pair_scalar}
 use Rattle.enc_drivers.specs.declared.Mode.{Mode}
 use Rattle.enc_drivers.specs.Units.{scalar_at, malformed_at, IsCode, IsUnitOf, AreBytes}
 use Rattle.enc_drivers.specs.Utf16.{single_unit, utf16_unit}
-use Rattle.enc_drivers.proofs.Scalars.{scalar_high, encode_four}
+use Rattle.enc_drivers.specs.Lemmas.Scalars.{scalar_high, encode_four}
 
 malformed_unit : (mode : Mode) (rest : List ℕ) (n : ℕ) → 1 ≤ n → n ≤ 4 → n ≤ length rest → IsUnitOf rest (malformed_at mode n)
 malformed_unit mode rest n some four within = record {

@@ -1,13 +1,14 @@
 -- The laws of UTF-8.
-use Rattle.std.proofs.Common.{◌≡◌, ℕ, suc, ◌+◌, ◌-◌, ◌*◌, ◌<◌, ◌≤◌, Bool, true, false, leb-true, ltb-true, eqb, List, [], ◌∷◌, length, get_or, take, refl, ap, arith, inl, inr, ⊎_elim}
-use Rattle.std.specs.Prelude.{nat_le, nat_lt, ◌&&◌, ◌||◌, ◌⊎◌}
-use Rattle.std.specs.Char.{IsScalar}
+use Rattle.std.proofs.Common.{◌≡◌, ℕ, suc, ◌+◌, ◌<◌, ◌≤◌, Bool, true, false, leb-true, ltb-true, eqb, List, [], ◌∷◌, length, get_or, take, drop, refl, ap, ◌∙◌, arith, ⊎_elim, length-append}
+use Rattle.std.specs.Prelude.{nat_le, nat_lt, ◌&&◌, ◌||◌}
+use Rattle.std.specs.Char.{encode_utf8}
 use Rattle.std.proofs.lemmas.Bool.{and_parts, or_cases, eqb-false, lt-ltb}
 use Rattle.enc_handles.specs.Utf8.{byte_in, is_tail_at, begins_two, begins_three, begins_four, sequence_len, sequence_scalar}
 use Rattle.enc_drivers.specs.declared.Mode.{Mode}
 use Rattle.enc_drivers.specs.Units.{scalar_at, malformed_at, IsCode, IsUnitOf, AreBytes}
 use Rattle.enc_drivers.specs.Utf8.{begins_pair, two_of_three, two_of_four, malformed_len, utf8_unit}
-use Rattle.enc_drivers.proofs.Scalars.{scalar_low, scalar_high, encode_four, encode_one}
+use Rattle.enc_handles.proofs.Sequences.{sequence-Decodes}
+use Rattle.enc_drivers.specs.Lemmas.Scalars.{encode_four}
 
 -- a byte from low to high stands at place k
 pub record ByteAt (bytes : List ℕ) (k low high : ℕ) : Type 0 where
@@ -138,95 +139,21 @@ four bytes low high second_low second_high e =
       fourth = byte_at bytes 3 0x80 0xBF r.1;
     }
 
--- the scalar by the sequence's length
-pub scalar_one : (bytes : List ℕ) → sequence_len bytes ≡ 1 → sequence_scalar bytes ≡ get_or bytes 0 0
-unfolding sequence_scalar
-scalar_one bytes e = rw e refl
-
-pub scalar_two : (bytes : List ℕ) → sequence_len bytes ≡ 2 → sequence_scalar bytes ≡ (get_or bytes 0 0 - 0xC0) * 0x40 + (get_or bytes 1 0 - 0x80)
-unfolding sequence_scalar
-scalar_two bytes e = rw e refl
-
-pub scalar_three : (bytes : List ℕ) → sequence_len bytes ≡ 3 → sequence_scalar bytes ≡ (get_or bytes 0 0 - 0xE0) * 0x1000 + (get_or bytes 1 0 - 0x80) * 0x40 + (get_or bytes 2 0 - 0x80)
-unfolding sequence_scalar
-scalar_three bytes e = rw e refl
-
-pub scalar_four : (bytes : List ℕ) → sequence_len bytes ≡ 4 → sequence_scalar bytes ≡ (get_or bytes 0 0 - 0xF0) * 0x4_0000 + (get_or bytes 1 0 - 0x80) * 0x1000 + (get_or bytes 2 0 - 0x80) * 0x40 + (get_or bytes 3 0 - 0x80)
-unfolding sequence_scalar
-scalar_four bytes e = rw e refl
-
--- a sequence of two bytes or more, whose scalar is one
-long_sequence : (mode : Mode) (bytes : List ℕ) (n : ℕ) → sequence_len bytes ≡ n → 2 ≤ n → n ≤ 4 → n ≤ length bytes → IsScalar (sequence_scalar bytes) → IsUnitOf bytes (scalar_at mode (sequence_scalar bytes) (sequence_len bytes))
-long_sequence mode bytes n e some most within s =
-    let few = encode_four (sequence_scalar bytes) in
+-- where a sequence is at the front
+pub sequence_unit : (mode : Mode) (bytes : List ℕ) → 0 < sequence_len bytes → IsUnitOf bytes (scalar_at mode (sequence_scalar bytes) (sequence_len bytes))
+sequence_unit mode bytes some =
+    let d = sequence-Decodes bytes some in
+    let few : length (encode_utf8 (sequence_scalar bytes)) ≤ 4 = encode_four (sequence_scalar bytes) in
+    let len : length (encode_utf8 (sequence_scalar bytes)) ≡ sequence_len bytes = d.length_is in
+    let whole : length bytes ≡ length (encode_utf8 (sequence_scalar bytes)) + length (drop (sequence_len bytes) bytes) =
+    ap length d.front ∙ length-append (encode_utf8 (sequence_scalar bytes)) (drop (sequence_len bytes) bytes) in
     record {
       some = omega arith;
       four = omega arith;
       within = omega arith;
-      scalars = s;
-      short_text = omega (arith, few);
+      scalars = d.scalar;
+      short_text = omega arith;
     }
-
-low_three : (mode : Mode) (bytes : List ℕ) (low high second_low second_high : ℕ) → sequence_len bytes ≡ 3 → Three bytes low high second_low second_high
-    → 0xE0 ≤ low → 0x80 ≤ second_low → second_high ≤ 0xBF → high ≤ 0xED → (high ≤ 0xEC) ⊎ (second_high ≤ 0x9F) → IsUnitOf bytes (scalar_at mode (sequence_scalar bytes) (sequence_len bytes))
-low_three mode bytes low high second_low second_high e t a b c d (inl f) =
-    long_sequence mode bytes 3 e (omega arith) (omega arith) (omega (arith, t.third.within))
-    (scalar_low (sequence_scalar bytes) (rw (scalar_three bytes e) (omega arith)))
-low_three mode bytes low high second_low second_high e t a b c d (inr f) =
-    long_sequence mode bytes 3 e (omega arith) (omega arith) (omega (arith, t.third.within))
-    (scalar_low (sequence_scalar bytes) (rw (scalar_three bytes e) (omega arith)))
-
-high_three : (mode : Mode) (bytes : List ℕ) → sequence_len bytes ≡ 3 → Three bytes 0xEE 0xEF 0x80 0xBF → IsUnitOf bytes (scalar_at mode (sequence_scalar bytes) (sequence_len bytes))
-high_three mode bytes e t =
-    long_sequence mode bytes 3 e (omega arith) (omega arith) (omega (arith, t.third.within))
-    (scalar_high (sequence_scalar bytes)
-    (rw (scalar_three bytes e) (omega (arith, t.first.low_end, t.first.high_end, t.second.low_end, t.second.high_end, t.third.low_end, t.third.high_end)))
-    (rw (scalar_three bytes e) (omega (arith, t.first.low_end, t.first.high_end, t.second.low_end, t.second.high_end, t.third.low_end, t.third.high_end))))
-
--- the number of four bytes, from below and from above
-four_low : (bytes : List ℕ) (low high second_low second_high : ℕ) → Four bytes low high second_low second_high → 0xF0 ≤ low → 0x80 ≤ second_low → (0xF1 ≤ low) ⊎ (0x90 ≤ second_low)
-    → 0xE000 ≤ (get_or bytes 0 0 - 0xF0) * 0x4_0000 + (get_or bytes 1 0 - 0x80) * 0x1000 + (get_or bytes 2 0 - 0x80) * 0x40 + (get_or bytes 3 0 - 0x80)
-four_low bytes low high second_low second_high t a c (inl f) = omega arith
-four_low bytes low high second_low second_high t a c (inr f) = omega arith
-
-four_high : (bytes : List ℕ) (low high second_low second_high : ℕ) → Four bytes low high second_low second_high → high ≤ 0xF4 → second_high ≤ 0xBF → (high ≤ 0xF3) ⊎ (second_high ≤ 0x8F)
-    → (get_or bytes 0 0 - 0xF0) * 0x4_0000 + (get_or bytes 1 0 - 0x80) * 0x1000 + (get_or bytes 2 0 - 0x80) * 0x40 + (get_or bytes 3 0 - 0x80) < 0x11_0000
-four_high bytes low high second_low second_high t b d (inl g) = omega arith
-four_high bytes low high second_low second_high t b d (inr g) = omega arith
-
-long_four : (mode : Mode) (bytes : List ℕ) (low high second_low second_high : ℕ) → sequence_len bytes ≡ 4 → Four bytes low high second_low second_high
-    → 0xF0 ≤ low → high ≤ 0xF4 → 0x80 ≤ second_low → second_high ≤ 0xBF → (0xF1 ≤ low) ⊎ (0x90 ≤ second_low) → (high ≤ 0xF3) ⊎ (second_high ≤ 0x8F) → IsUnitOf bytes (scalar_at mode (sequence_scalar bytes) (sequence_len bytes))
-long_four mode bytes low high second_low second_high e t a b c d f g =
-    long_sequence mode bytes 4 e (omega arith) (omega arith) (omega (arith, t.fourth.within))
-    (scalar_high (sequence_scalar bytes) (rw (scalar_four bytes e) (four_low bytes low high second_low second_high t a c f)) (rw (scalar_four bytes e) (four_high bytes low high second_low second_high t b d g)))
-
--- where a sequence is at the front
-pub sequence_unit : (mode : Mode) (bytes : List ℕ) → Row bytes → 0 < sequence_len bytes → IsUnitOf bytes (scalar_at mode (sequence_scalar bytes) (sequence_len bytes))
-sequence_unit mode bytes (no_row e none) h = absurd (omega arith)
-sequence_unit mode bytes (one e t) h =
-    let b = byte_at bytes 0 0x00 0x7F t in
-    let c : sequence_scalar bytes ≡ get_or bytes 0 0 = scalar_one bytes e in
-    let few = encode_one (sequence_scalar bytes) (omega (arith, b.high_end)) in
-    record {
-      some = omega arith;
-      four = omega arith;
-      within = omega (arith, b.within);
-      scalars = scalar_low (sequence_scalar bytes) (omega (arith, b.high_end));
-      short_text = omega (arith, few);
-    }
-sequence_unit mode bytes (two e t) h =
-    let p = and_parts (byte_in bytes 0 0xC2 0xDF) (is_tail_at bytes 1) t in
-    let first = byte_at bytes 0 0xC2 0xDF p.0 in
-    let second = byte_at bytes 1 0x80 0xBF p.1 in
-    long_sequence mode bytes 2 e (omega arith) (omega arith) (omega (arith, second.within))
-    (scalar_low (sequence_scalar bytes) (rw (scalar_two bytes e) (omega (arith, first.low_end, first.high_end, second.low_end, second.high_end))))
-sequence_unit mode bytes (three_e0 e t) h = low_three mode bytes 0xE0 0xE0 0xA0 0xBF e (three bytes 0xE0 0xE0 0xA0 0xBF t) (omega arith) (omega arith) (omega arith) (omega arith) (inl (omega arith))
-sequence_unit mode bytes (three_e1 e t) h = low_three mode bytes 0xE1 0xEC 0x80 0xBF e (three bytes 0xE1 0xEC 0x80 0xBF t) (omega arith) (omega arith) (omega arith) (omega arith) (inl (omega arith))
-sequence_unit mode bytes (three_ed e t) h = low_three mode bytes 0xED 0xED 0x80 0x9F e (three bytes 0xED 0xED 0x80 0x9F t) (omega arith) (omega arith) (omega arith) (omega arith) (inr (omega arith))
-sequence_unit mode bytes (three_ee e t) h = high_three mode bytes e (three bytes 0xEE 0xEF 0x80 0xBF t)
-sequence_unit mode bytes (four_f0 e t) h = long_four mode bytes 0xF0 0xF0 0x90 0xBF e (four bytes 0xF0 0xF0 0x90 0xBF t) (omega arith) (omega arith) (omega arith) (omega arith) (inr (omega arith)) (inl (omega arith))
-sequence_unit mode bytes (four_f1 e t) h = long_four mode bytes 0xF1 0xF3 0x80 0xBF e (four bytes 0xF1 0xF3 0x80 0xBF t) (omega arith) (omega arith) (omega arith) (omega arith) (inl (omega arith)) (inl (omega arith))
-sequence_unit mode bytes (four_f4 e t) h = long_four mode bytes 0xF4 0xF4 0x80 0x8F e (four bytes 0xF4 0xF4 0x80 0x8F t) (omega arith) (omega arith) (omega arith) (omega arith) (inl (omega arith)) (inr (omega arith))
 
 -- where none is
 malformed_some : (mode : Mode) (bytes : List ℕ) (n : ℕ) → malformed_len bytes ≡ n → 1 ≤ n → n ≤ 3 → n ≤ length bytes → IsUnitOf bytes (malformed_at mode (malformed_len bytes))
@@ -282,7 +209,7 @@ each_unit mode bytes are some = by_test (eqb (sequence_len bytes) 0) refl
     by_test true e = rw e (malformed_unit mode bytes some)
     by_test false e =
         let ne = eqb-false (sequence_len bytes) 0 e in
-        rw e (sequence_unit mode bytes (row_of bytes) (omega arith))
+        rw e (sequence_unit mode bytes (omega arith))
 
 -- the places of a list of four elements or more
 some_of_four : (n : ℕ) → (nat_lt 0 (suc (suc (suc (suc n)))) ≡ true) × (nat_lt 1 (suc (suc (suc (suc n)))) ≡ true) × (nat_lt 2 (suc (suc (suc (suc n)))) ≡ true) × (nat_lt 3 (suc (suc (suc (suc n)))) ≡ true)

@@ -16,6 +16,3 @@ encode_four c = rw (length-encode c) (grind (arith, nat_tests))
 
 pub encode_three : (c : ℕ) → c < 0x10000 → length (encode_utf8 c) ≤ 3
 encode_three c h = rw (length-encode c) (grind (arith, nat_tests))
-
-pub encode_one : (c : ℕ) → c < 0x80 → length (encode_utf8 c) ≤ 1
-encode_one c h = rw (length-encode c) (grind (arith, nat_tests))
