@@ -1,4 +1,12 @@
+pub mod CallLemmas
+pub mod FrontSteps
+pub mod OneByte
+pub mod StepLemmas
+pub mod Turns
 pub mod UnitLemmas
+pub mod Utf16Steps
+pub mod Utf8Rows
 pub mod Utf8RoundTrip
+pub mod Utf8Steps
 pub mod Utf16RoundTrip
 pub mod Utf8Malformed

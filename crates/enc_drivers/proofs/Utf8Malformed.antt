@@ -1,70 +1,14 @@
 -- A malformed unit covers the longest front that begins some well-formed sequence.
-use Rattle.std.proofs.Common.{◌≡◌, ℕ, ◌+◌, ◌<◌, ◌≤◌, Bool, true, false, ltb, List, [], ◌∷◌, ◌++◌, length, get_or, take, refl, sym, ◌∙◌, arith, inl, inr, ⊎_elim, subst, length-append}
+use Rattle.std.proofs.Common.{◌≡◌, ℕ, ◌+◌, ◌<◌, ◌≤◌, Bool, true, false, List, [], ◌∷◌, ◌++◌, length, get_or, take, refl, sym, ◌∙◌, arith, inl, inr, ⊎_elim, subst, length-append}
 use Rattle.std.specs.Prelude.{◌⊎◌, ◌&&◌, ◌||◌}
-use Rattle.std.proofs.lemmas.Bool.{cases_lt, and_parts, and_from, or_cases, both_ways, lt-ltb, le-leb}
+use Rattle.std.proofs.lemmas.Bool.{cases_lt, and_parts, and_from, or_cases, both_ways}
+use Rattle.std.proofs.lemmas.List.Elements.{All-nil, All-cons}
+use Rattle.enc_drivers.specs.Units.{AreBytes}
+use Rattle.enc_drivers.proofs.Utf8Rows.{Three, Four, Row, NoRow, no_row, one, two, three_e0, three_e1, three_ed, three_ee, four_f0, four_f1, four_f4, row_of, three, four, byte_in_from, two_from, three_from, four_from, kind_of, len_three, len_four}
 use Rattle.std.proofs.lemmas.List.{get_or_append_left, get_or-append-add, get_or-take, length-take-le}
 use Rattle.enc_handles.specs.Utf8.{byte_in, is_tail_at, begins_two, begins_three, begins_four, sequence_len}
 use Rattle.enc_drivers.specs.Utf8.{begins_pair, two_of_three, two_of_four, malformed_len, BeginsSequence, IsLongestBegun}
-use Rattle.enc_drivers.specs.Lemmas.Utf8Law.{ByteAt, Three, Four, Row, NoRow, no_row, one, two, three_e0, three_e1, three_ed, three_ee, four_f0, four_f1, four_f4, row_of, byte_at, both, three, four}
-
--- tests from facts
-byte_in_from : (bytes : List ℕ) (k low high : ℕ) → k < length bytes → low ≤ get_or bytes k 0 → get_or bytes k 0 ≤ high → byte_in bytes k low high ≡ true
-byte_in_from bytes k low high within l h =
-    and_from (ltb k (length bytes)) _ (lt-ltb k (length bytes) within) (and_from _ _ (le-leb low (get_or bytes k 0) l) (le-leb (get_or bytes k 0) high h))
-
-two_from : (bytes : List ℕ) (low high : ℕ) → 1 < length bytes → low ≤ get_or bytes 0 0 → get_or bytes 0 0 ≤ high → 0x80 ≤ get_or bytes 1 0 → get_or bytes 1 0 ≤ 0xBF → begins_two bytes low high ≡ true
-two_from bytes low high within a b c d =
-    and_from (byte_in bytes 0 low high) (is_tail_at bytes 1) (byte_in_from bytes 0 low high (omega arith) a b) (byte_in_from bytes 1 0x80 0xBF within c d)
-
-three_from : (bytes : List ℕ) (low high second_low second_high : ℕ) → 2 < length bytes → low ≤ get_or bytes 0 0 → get_or bytes 0 0 ≤ high → second_low ≤ get_or bytes 1 0 → get_or bytes 1 0 ≤ second_high
-    → 0x80 ≤ get_or bytes 2 0 → get_or bytes 2 0 ≤ 0xBF → begins_three bytes low high second_low second_high ≡ true
-three_from bytes low high second_low second_high within a b c d e f =
-    and_from (byte_in bytes 0 low high) _ (byte_in_from bytes 0 low high (omega arith) a b)
-    (and_from (byte_in bytes 1 second_low second_high) (is_tail_at bytes 2) (byte_in_from bytes 1 second_low second_high (omega arith) c d) (byte_in_from bytes 2 0x80 0xBF within e f))
-
-four_from : (bytes : List ℕ) (low high second_low second_high : ℕ) → 3 < length bytes → low ≤ get_or bytes 0 0 → get_or bytes 0 0 ≤ high → second_low ≤ get_or bytes 1 0 → get_or bytes 1 0 ≤ second_high
-    → 0x80 ≤ get_or bytes 2 0 → get_or bytes 2 0 ≤ 0xBF → 0x80 ≤ get_or bytes 3 0 → get_or bytes 3 0 ≤ 0xBF → begins_four bytes low high second_low second_high ≡ true
-four_from bytes low high second_low second_high within a b c d e f g h =
-    and_from (byte_in bytes 0 low high) _ (byte_in_from bytes 0 low high (omega arith) a b)
-    (and_from (byte_in bytes 1 second_low second_high) _ (byte_in_from bytes 1 second_low second_high (omega arith) c d)
-    (and_from (is_tail_at bytes 2) (is_tail_at bytes 3) (byte_in_from bytes 2 0x80 0xBF (omega arith) e f) (byte_in_from bytes 3 0x80 0xBF within g h)))
-
--- how long the sequence at the front is, and where its first byte lies
-data Kind (bytes : List ℕ) : Type 0 where
-  kind_none : NoRow bytes → Kind bytes
-  kind_one : sequence_len bytes ≡ 1 → get_or bytes 0 0 ≤ 0x7F → Kind bytes
-  kind_two : sequence_len bytes ≡ 2 → 0xC2 ≤ get_or bytes 0 0 → get_or bytes 0 0 ≤ 0xDF → Kind bytes
-  kind_three : sequence_len bytes ≡ 3 → 0xE0 ≤ get_or bytes 0 0 → get_or bytes 0 0 ≤ 0xEF → Kind bytes
-  kind_four : sequence_len bytes ≡ 4 → 0xF0 ≤ get_or bytes 0 0 → get_or bytes 0 0 ≤ 0xF4 → Kind bytes
-
-kind_of : (bytes : List ℕ) → Row bytes → Kind bytes
-kind_of bytes (no_row e none) = kind_none none
-kind_of bytes (one e t) = kind_one e (byte_at bytes 0 0x00 0x7F t).high_end
-kind_of bytes (two e t) =
-    let b = byte_at bytes 0 0xC2 0xDF (and_parts (byte_in bytes 0 0xC2 0xDF) (is_tail_at bytes 1) t).0 in
-    kind_two e b.low_end b.high_end
-kind_of bytes (three_e0 e t) = let f = (three bytes 0xE0 0xE0 0xA0 0xBF t).first in kind_three e (omega (arith, f.low_end)) (omega (arith, f.high_end))
-kind_of bytes (three_e1 e t) = let f = (three bytes 0xE1 0xEC 0x80 0xBF t).first in kind_three e (omega (arith, f.low_end)) (omega (arith, f.high_end))
-kind_of bytes (three_ed e t) = let f = (three bytes 0xED 0xED 0x80 0x9F t).first in kind_three e (omega (arith, f.low_end)) (omega (arith, f.high_end))
-kind_of bytes (three_ee e t) = let f = (three bytes 0xEE 0xEF 0x80 0xBF t).first in kind_three e (omega (arith, f.low_end)) (omega (arith, f.high_end))
-kind_of bytes (four_f0 e t) = let f = (four bytes 0xF0 0xF0 0x90 0xBF t).three.first in kind_four e (omega (arith, f.low_end)) (omega (arith, f.high_end))
-kind_of bytes (four_f1 e t) = let f = (four bytes 0xF1 0xF3 0x80 0xBF t).three.first in kind_four e (omega (arith, f.low_end)) (omega (arith, f.high_end))
-kind_of bytes (four_f4 e t) = let f = (four bytes 0xF4 0xF4 0x80 0x8F t).three.first in kind_four e (omega (arith, f.low_end)) (omega (arith, f.high_end))
-
--- the length, where one row holds and the first byte leaves no other length
-len_three : (bytes : List ℕ) → Kind bytes → (NoRow bytes → ⊥) → 0xE0 ≤ get_or bytes 0 0 → get_or bytes 0 0 ≤ 0xEF → sequence_len bytes ≡ 3
-len_three bytes (kind_none none) some a b = absurd (some none)
-len_three bytes (kind_one e h) some a b = absurd (omega arith)
-len_three bytes (kind_two e l h) some a b = absurd (omega arith)
-len_three bytes (kind_three e l h) some a b = e
-len_three bytes (kind_four e l h) some a b = absurd (omega arith)
-
-len_four : (bytes : List ℕ) → Kind bytes → (NoRow bytes → ⊥) → 0xF0 ≤ get_or bytes 0 0 → sequence_len bytes ≡ 4
-len_four bytes (kind_none none) some a = absurd (some none)
-len_four bytes (kind_one e h) some a = absurd (omega arith)
-len_four bytes (kind_two e l h) some a = absurd (omega arith)
-len_four bytes (kind_three e l h) some a = absurd (omega arith)
-len_four bytes (kind_four e l h) some a = e
+use Rattle.enc_drivers.specs.Lemmas.Utf8Law.{ByteAt, byte_at, both}
 
 -- the front of k bytes and what is put behind it agree with the bytes below k
 same_byte : (bytes more : List ℕ) (k i : ℕ) → i < k → k ≤ length bytes → get_or (take k bytes ++ more) i 0 ≡ get_or bytes i 0
@@ -216,6 +160,12 @@ added bytes more k j w h is =
       high_end = omega arith;
     }
 
+one_tail : AreBytes (0x80 ∷ [])
+one_tail = All-cons (λ b. b < 256) 0x80 [] (omega arith) (All-nil (λ b. b < 256))
+
+two_tails : AreBytes (0x80 ∷ 0x80 ∷ [])
+two_tails = All-cons (λ b. b < 256) 0x80 (0x80 ∷ []) (omega arith) one_tail
+
 begun_three : (bytes : List ℕ) (low high second_low second_high : ℕ) → 0xE0 ≤ low → high ≤ 0xEF → begins_pair bytes low high second_low second_high ≡ true
     → (NoRow (take 2 bytes ++ 0x80 ∷ []) → begins_three (take 2 bytes ++ 0x80 ∷ []) low high second_low second_high ≡ false) → BeginsSequence bytes 2
 begun_three bytes low high second_low second_high l h t not =
@@ -228,7 +178,7 @@ begun_three bytes low high second_low second_high l h t not =
     let e = len_three made (kind_of made (row_of made))
     (λ none. both_ways _ (not none) (three_from made low high second_low second_high d.within a.low_end a.high_end c.low_end c.high_end d.low_end d.high_end))
     (omega (arith, a.low_end)) (omega (arith, a.high_end)) in
-    (w, (0x80 ∷ [], omega arith))
+    (w, (0x80 ∷ [], one_tail, omega arith))
 
 begun_four_two : (bytes : List ℕ) (low high second_low second_high : ℕ) → 0xF0 ≤ low → begins_pair bytes low high second_low second_high ≡ true
     → (NoRow (take 2 bytes ++ 0x80 ∷ 0x80 ∷ []) → begins_four (take 2 bytes ++ 0x80 ∷ 0x80 ∷ []) low high second_low second_high ≡ false) → BeginsSequence bytes 2
@@ -243,7 +193,7 @@ begun_four_two bytes low high second_low second_high l t not =
     let e = len_four made (kind_of made (row_of made))
     (λ none. both_ways _ (not none) (four_from made low high second_low second_high f.within a.low_end a.high_end c.low_end c.high_end d.low_end d.high_end f.low_end f.high_end))
     (omega (arith, a.low_end)) in
-    (w, (0x80 ∷ 0x80 ∷ [], omega arith))
+    (w, (0x80 ∷ 0x80 ∷ [], two_tails, omega arith))
 
 begun_four_three : (bytes : List ℕ) (low high second_low second_high : ℕ) → 0xF0 ≤ low → begins_pair bytes low high second_low second_high ≡ true → is_tail_at bytes 2 ≡ true
     → (NoRow (take 3 bytes ++ 0x80 ∷ []) → begins_four (take 3 bytes ++ 0x80 ∷ []) low high second_low second_high ≡ false) → BeginsSequence bytes 3
@@ -259,7 +209,7 @@ begun_four_three bytes low high second_low second_high l t tail not =
     let e = len_four made (kind_of made (row_of made))
     (λ none. both_ways _ (not none) (four_from made low high second_low second_high f.within a.low_end a.high_end c.low_end c.high_end d.low_end d.high_end f.low_end f.high_end))
     (omega (arith, a.low_end)) in
-    (w, (0x80 ∷ [], omega arith))
+    (w, (0x80 ∷ [], one_tail, omega arith))
 
 from_three : (bytes : List ℕ) → two_of_three bytes ≡ true → BeginsSequence bytes 2
 from_three bytes e = let f : (two_of_three bytes ≡ true → BeginsSequence bytes 2) = (λ h. ⊎_elim (λ h. ⊎_elim (λ h. ⊎_elim (λ t. begun_three bytes 0xE0 0xE0 0xA0 0xBF (omega arith) (omega arith) t (λ none. none.not_three_e0)) (λ t. begun_three bytes 0xE1 0xEC 0x80 0xBF (omega arith) (omega arith) t (λ none. none.not_three_e1)) (or_cases (begins_pair bytes 0xE0 0xE0 0xA0 0xBF) (begins_pair bytes 0xE1 0xEC 0x80 0xBF) h)) (λ t. begun_three bytes 0xED 0xED 0x80 0x9F (omega arith) (omega arith) t (λ none. none.not_three_ed)) (or_cases ((begins_pair bytes 0xE0 0xE0 0xA0 0xBF) || (begins_pair bytes 0xE1 0xEC 0x80 0xBF)) (begins_pair bytes 0xED 0xED 0x80 0x9F) h)) (λ t. begun_three bytes 0xEE 0xEF 0x80 0xBF (omega arith) (omega arith) t (λ none. none.not_three_ee)) (or_cases (((begins_pair bytes 0xE0 0xE0 0xA0 0xBF) || (begins_pair bytes 0xE1 0xEC 0x80 0xBF)) || (begins_pair bytes 0xED 0xED 0x80 0x9F)) (begins_pair bytes 0xEE 0xEF 0x80 0xBF) h)) in f e
@@ -298,5 +248,5 @@ pub malformed_law : (bytes : List ℕ) → 0 < length bytes → sequence_len byt
 malformed_law bytes some z = record {
   some = some_malformed bytes;
   begun = begins bytes;
-  longest = λ k longer b. no_longer bytes z k longer (some_malformed bytes) b.0 b.1.0 (row_of (take k bytes ++ b.1.0)) (none_of bytes (row_of bytes) z) b.1.1;
+  longest = λ k longer b. no_longer bytes z k longer (some_malformed bytes) b.0 b.1.0 (row_of (take k bytes ++ b.1.0)) (none_of bytes (row_of bytes) z) b.1.2;
 }

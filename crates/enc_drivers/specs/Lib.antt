@@ -1,5 +1,9 @@
+pub mod Driver
+pub mod Front
 pub mod Lemmas
+pub mod Resume
 pub mod SingleByte
+pub mod Steps
 pub mod Units
 pub mod Utf16
 pub mod Utf8

@@ -1,5 +1,9 @@
--- The units of windows-1252 and x-user-defined (Encoding Standard, sections 9.1 and 14.5).
-use Rattle.std.specs.Prelude.{ℕ, ◌+◌, ◌-◌, ◌&&◌, nat_le, nat_lt, if◌then◌else◌, List, [], ◌∷◌, slice_index}
+-- The units of the encodings of one byte a scalar (Encoding Standard, section 9.1, single-byte decoder; section 14.5, x-user-defined).
+use Rattle.std.specs.Prelude.{ℕ, ◌+◌, ◌-◌, ◌<◌, ◌&&◌, nat_le, nat_lt, if◌then◌else◌, List, [], ◌∷◌, slice_index, Option}
+use Rattle.std.specs.Option.{option_map_or, ForSome}
+use Rattle.std.specs.Char.{IsScalar}
+use Rattle.enc_drivers.specs.declared.Item.{Item}
+use Rattle.enc_drivers.specs.declared.Item.TheVariants.{One, Malformed}
 use Rattle.enc_drivers.specs.declared.Mode.{Mode}
 use Rattle.enc_drivers.specs.Units.{UnitAt, scalar_at, malformed_at}
 
@@ -27,3 +31,23 @@ windows_1252_unit mode (b ∷ rest) = scalar_at mode (windows_1252_scalar b) 1
 unfoldable pub user_defined_unit : Mode → List ℕ → UnitAt
 user_defined_unit mode [] = malformed_at mode 0
 user_defined_unit mode (b ∷ rest) = scalar_at mode (user_defined_scalar b) 1
+
+-- the scalars of an index by place, none where the index has no such place
+abbrev pub Places : Type 0
+Places = ℕ → Option ℕ
+
+-- what an index finds is a scalar
+abbrev pub FindsScalars : Places → Type 0
+FindsScalars places = (place : ℕ) → ForSome (places place) (λ c. IsScalar c)
+
+-- no scalar of the index is above U+FFFF
+abbrev pub HasNoAstral : Places → Type 0
+HasNoAstral places = (place : ℕ) → ForSome (places place) (λ c. c < 0x10000)
+
+-- ASCII as it is; 80 to FF by the index, at the places from 0 on, and malformed where it has no scalar there
+unfoldable pub single_byte_item : Places → ℕ → Item
+single_byte_item places b = if nat_lt b 0x80 then One b else option_map_or (λ c. One c) (places (b - 0x80)) Malformed
+
+unfoldable pub single_byte_unit : Places → Mode → List ℕ → UnitAt
+single_byte_unit places mode [] = malformed_at mode 0
+single_byte_unit places mode (b ∷ rest) = record { item = single_byte_item places b; len = 1; next = mode }

@@ -57,7 +57,7 @@ AreBytes bytes = All (λ b. b < 256) bytes
 abbrev pub IsOfTwoBytes : ℕ → Type 0
 IsOfTwoBytes scalar = (0x80 ≤ scalar) × (scalar < 0x800)
 
--- the item's scalars are scalars, and those of a pair have two bytes each (of the four pairs of Big5, Encoding Standard, section 12.1.1, each has)
+-- the item's scalars are scalars, and both of a pair have two bytes, as in the four pairs of Big5 (Encoding Standard, section 12.1.1)
 abbrev pub HasScalars : Item → Type 0
 HasScalars (One scalar) = IsScalar scalar
 HasScalars (Two first second) = IsOfTwoBytes first × IsOfTwoBytes second

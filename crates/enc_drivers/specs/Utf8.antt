@@ -2,7 +2,7 @@
 use Rattle.std.specs.Prelude.{ℕ, ◌<◌, ◌≤◌, Bool, ◌==◌, ◌&&◌, ◌||◌, if◌then◌else◌, List, ◌++◌, length, take}
 use Rattle.enc_handles.specs.Utf8.{byte_in, is_tail_at, sequence_len, sequence_scalar}
 use Rattle.enc_drivers.specs.declared.Mode.{Mode}
-use Rattle.enc_drivers.specs.Units.{UnitAt, scalar_at, malformed_at}
+use Rattle.enc_drivers.specs.Units.{UnitAt, AreBytes, scalar_at, malformed_at}
 
 -- the first two bytes of a row of the table
 abbrev pub begins_pair : List ℕ → ℕ → ℕ → ℕ → ℕ → Bool
@@ -38,7 +38,7 @@ utf8_unit mode rest =
 
 -- n bytes at the front are a front of some well-formed sequence: with some bytes behind them they begin one that is no shorter
 abbrev pub BeginsSequence : List ℕ → ℕ → Type 0
-BeginsSequence bytes n = (n ≤ length bytes) × ((more : List ℕ) × (n ≤ sequence_len (take n bytes ++ more)))
+BeginsSequence bytes n = (n ≤ length bytes) × ((more : List ℕ) × AreBytes more × (n ≤ sequence_len (take n bytes ++ more)))
 
 -- n is one or more; of more than one byte, n is the greatest number that begin a sequence
 pub record IsLongestBegun (bytes : List ℕ) (n : ℕ) : Type 0 where

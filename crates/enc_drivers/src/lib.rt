@@ -2,7 +2,21 @@
 //! The definitions are in `specs/`: `units` of a code, and their `text`.
 #![tactic(auto)]
 
+pub mod code;
+pub mod driver;
+#[cfg(test)]
+mod driver_tests;
+mod front;
 pub mod laws;
+pub mod lookup;
+pub mod single_byte;
+#[cfg(test)]
+mod step_tests;
+mod steps;
+pub mod user_defined;
+pub mod utf16;
+pub mod utf8;
+pub mod windows_1252;
 
 /// What a decoder of a stateful encoding is in. Every other encoding has one mode.
 #[derive(Clone, Copy, Debug, PartialEq, Eq)]

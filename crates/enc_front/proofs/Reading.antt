@@ -1,24 +1,20 @@
 -- Lemmas of the plain reader.
-use Rattle.std.proofs.Common.{◌≡◌, ℕ, ◌<◌, ◌≤◌, Bool, true, false, cond, eqb, List, [], ◌∷◌, ◌+◌, length, get_or, refl, ap, sym, ◌∙◌, arith}
-use Rattle.std.specs.Prelude.{◌||◌, ◌++◌, drop, Option, Some, None, IsSome}
+use Rattle.std.proofs.Common.{◌≡◌, ℕ, ◌<◌, ◌≤◌, true, false, cond, eqb, List, [], ◌∷◌, ◌+◌, length, get_or, refl, ap, sym, ◌∙◌, arith, inl, inr}
+use Rattle.std.specs.Prelude.{◌⊎◌, ◌++◌, drop, min, Option, Some, None}
 use Rattle.std.specs.Prelude.{take, nat_lt}
 use Rattle.std.specs.List.{flat_map}
-use Rattle.std.specs.Option.{SomeIff, unwrap_or, option_map_or}
-use Rattle.std.specs.Char.{IsScalar, encode_utf8}
-use Rattle.std.proofs.lemmas.Bool.{eqb-false}
-use Rattle.std.proofs.lemmas.List.{append_assoc, append-nil, take_more}
+use Rattle.std.specs.Option.{unwrap_or, option_map_or}
+use Rattle.std.specs.Char.{encode_utf8}
+use Rattle.std.proofs.lemmas.Bool.{eqb-false, cases_lt}
+use Rattle.std.proofs.lemmas.List.{append_assoc, append-nil, take_more, take_all, length-take-le}
 use Rattle.std.proofs.lemmas.List.Concat.{flat_map-append}
-use Rattle.std.proofs.lemmas.List.Elements.{All-from_get_or}
-use Rattle.enc_handles.specs.Utf8.{byte_in, begins_two, begins_three, begins_four, sequence_len, sequence_scalar}
-use Rattle.enc_handles.specs.Utf16.{code_unit, is_lead, is_trail, pair_scalar}
+use Rattle.std.proofs.lemmas.List.Elements.{All-nil, All-take, All-from_get_or}
 use Rattle.enc_drivers.specs.declared.Item.{Item}
-use Rattle.enc_drivers.specs.declared.Item.TheVariants.{One, Malformed}
 use Rattle.enc_drivers.specs.declared.Mode.{Mode}
 use Rattle.enc_drivers.specs.declared.Mode.TheVariants.{Plain}
-use Rattle.enc_drivers.specs.Units.{scalar_at, malformed_at, IsCode, IsUnitOf, AreBytes, units, text, item_text, replacement}
-use Rattle.enc_drivers.specs.SingleByte.{windows_1252_scalar, windows_1252_unit, user_defined_scalar, user_defined_unit}
+use Rattle.enc_drivers.specs.Steps.{MayFollow}
+use Rattle.enc_drivers.specs.Units.{Code, UnitAt, IsCode, IsUnitOf, AreBytes, units, text, item_text, replacement}
 use Rattle.enc_drivers.proofs.UnitLemmas.{units_nil, units_some, text-cons, text_nil}
-use Rattle.enc_handles.proofs.Sequences.{sequence-Decodes}
 use Rattle.enc_drivers.specs.Lemmas.Utf8Law.{utf8_law}
 use Rattle.enc_drivers.specs.Lemmas.Utf16Law.{utf16_law}
 use Rattle.enc_drivers.specs.Lemmas.SingleByteLaw.{windows_1252_law, user_defined_law}
@@ -28,130 +24,29 @@ use Rattle.enc_front.specs.Charsets.{ascii_text, marked_text}
 use Rattle.enc_front.specs.Marks.{mark}
 use Rattle.enc_front.specs.Indexes.{Indexes, is_built_in}
 use Rattle.enc_front.specs.Units.{unit, decoded}
-use Rattle.enc_drivers.specs.Utf16.{single_unit, utf16_unit}
 
-same_of_four : (a b c d : Bool) (n z : ℕ) → cond a n (cond b n (cond c n (cond d n z))) ≡ cond (a || b || c || d) n z
-same_of_four true b c d n z = refl
-same_of_four false true c d n z = refl
-same_of_four false false true d n z = refl
-same_of_four false false false true n z = refl
-same_of_four false false false false n z = refl
+pub are_bytes : (bytes : List ℕ) → ((i : ℕ) → get_or bytes i 0 < 256) → AreBytes bytes
+are_bytes bytes h = All-from_get_or (λ b. b < 256) bytes 0 (λ i k. h i)
 
-same_of_three : (a b c : Bool) (n z : ℕ) → cond a n (cond b n (cond c n z)) ≡ cond (a || b || c) n z
-same_of_three true b c n z = refl
-same_of_three false true c n z = refl
-same_of_three false false true n z = refl
-same_of_three false false false n z = refl
-
--- the length of the sequence at the front, with the rows of one length together
-pub sequence_len_short : (bytes : List ℕ) → sequence_len bytes
-    ≡ cond (byte_in bytes 0 0x00 0x7F) 1 (cond (begins_two bytes 0xC2 0xDF) 2
-    (cond (begins_three bytes 0xE0 0xE0 0xA0 0xBF || begins_three bytes 0xE1 0xEC 0x80 0xBF || begins_three bytes 0xED 0xED 0x80 0x9F || begins_three bytes 0xEE 0xEF 0x80 0xBF) 3
-    (cond (begins_four bytes 0xF0 0xF0 0x90 0xBF || begins_four bytes 0xF1 0xF3 0x80 0xBF || begins_four bytes 0xF4 0xF4 0x80 0x8F) 4 0)))
-unfolding sequence_len
-sequence_len_short bytes =
-    let four = same_of_three (begins_four bytes 0xF0 0xF0 0x90 0xBF) (begins_four bytes 0xF1 0xF3 0x80 0xBF) (begins_four bytes 0xF4 0xF4 0x80 0x8F) 4 0 in
-    let three = same_of_four (begins_three bytes 0xE0 0xE0 0xA0 0xBF) (begins_three bytes 0xE1 0xEC 0x80 0xBF) (begins_three bytes 0xED 0xED 0x80 0x9F) (begins_three bytes 0xEE 0xEF 0x80 0xBF) 3
-    (cond (begins_four bytes 0xF0 0xF0 0x90 0xBF || begins_four bytes 0xF1 0xF3 0x80 0xBF || begins_four bytes 0xF4 0xF4 0x80 0x8F) 4 0) in
-    ap (λ z. cond (byte_in bytes 0 0x00 0x7F) 1 (cond (begins_two bytes 0xC2 0xDF) 2
-    (cond (begins_three bytes 0xE0 0xE0 0xA0 0xBF) 3 (cond (begins_three bytes 0xE1 0xEC 0x80 0xBF) 3 (cond (begins_three bytes 0xED 0xED 0x80 0x9F) 3 (cond (begins_three bytes 0xEE 0xEF 0x80 0xBF) 3 z)))))) four
-    ∙ ap (λ z. cond (byte_in bytes 0 0x00 0x7F) 1 (cond (begins_two bytes 0xC2 0xDF) 2 z)) three
-
--- UTF-16 by what is left
-pub utf16_one : (big : Bool) (mode : Mode) (rest : List ℕ) → 0 < length rest → length rest < 2 → utf16_unit big mode rest ≡ malformed_at mode 1
-unfolding utf16_unit
-utf16_one big mode [] h k = absurd (omega arith)
-utf16_one big mode (a ∷ []) h k = refl
-utf16_one big mode (a ∷ b ∷ rest) h k = absurd (omega arith)
-
-pub utf16_single : (big : Bool) (mode : Mode) (rest : List ℕ) → 2 ≤ length rest → is_lead (code_unit big (get_or rest 0 0) (get_or rest 1 0)) ≡ false
-    → utf16_unit big mode rest ≡ single_unit mode (code_unit big (get_or rest 0 0) (get_or rest 1 0))
-unfolding utf16_unit
-utf16_single big mode [] h k = absurd (omega arith)
-utf16_single big mode (a ∷ []) h k = absurd (omega arith)
-utf16_single big mode (a ∷ b ∷ []) h k = rw k refl
-utf16_single big mode (a ∷ b ∷ c ∷ []) h k = rw k refl
-utf16_single big mode (a ∷ b ∷ c ∷ d ∷ rest) h k = rw k refl
-
-pub utf16_cut : (big : Bool) (mode : Mode) (rest : List ℕ) → 2 ≤ length rest → length rest < 4 → is_lead (code_unit big (get_or rest 0 0) (get_or rest 1 0)) ≡ true
-    → utf16_unit big mode rest ≡ malformed_at mode (length rest)
-unfolding utf16_unit
-utf16_cut big mode [] h l k = absurd (omega arith)
-utf16_cut big mode (a ∷ []) h l k = absurd (omega arith)
-utf16_cut big mode (a ∷ b ∷ []) h l k = rw k refl
-utf16_cut big mode (a ∷ b ∷ c ∷ []) h l k = rw k refl
-utf16_cut big mode (a ∷ b ∷ c ∷ d ∷ rest) h l k = absurd (omega arith)
-
-pub utf16_pair : (big : Bool) (mode : Mode) (rest : List ℕ) → 4 ≤ length rest → is_lead (code_unit big (get_or rest 0 0) (get_or rest 1 0)) ≡ true
-    → is_trail (code_unit big (get_or rest 2 0) (get_or rest 3 0)) ≡ true
-    → utf16_unit big mode rest ≡ scalar_at mode (pair_scalar (code_unit big (get_or rest 0 0) (get_or rest 1 0)) (code_unit big (get_or rest 2 0) (get_or rest 3 0))) 4
-unfolding utf16_unit
-utf16_pair big mode [] h k t = absurd (omega arith)
-utf16_pair big mode (a ∷ []) h k t = absurd (omega arith)
-utf16_pair big mode (a ∷ b ∷ []) h k t = absurd (omega arith)
-utf16_pair big mode (a ∷ b ∷ c ∷ []) h k t = absurd (omega arith)
-utf16_pair big mode (a ∷ b ∷ c ∷ d ∷ rest) h k t = rw (k, t) refl
-
-pub utf16_lead : (big : Bool) (mode : Mode) (rest : List ℕ) → 4 ≤ length rest → is_lead (code_unit big (get_or rest 0 0) (get_or rest 1 0)) ≡ true
-    → is_trail (code_unit big (get_or rest 2 0) (get_or rest 3 0)) ≡ false → utf16_unit big mode rest ≡ malformed_at mode 2
-unfolding utf16_unit
-utf16_lead big mode [] h k t = absurd (omega arith)
-utf16_lead big mode (a ∷ []) h k t = absurd (omega arith)
-utf16_lead big mode (a ∷ b ∷ []) h k t = absurd (omega arith)
-utf16_lead big mode (a ∷ b ∷ c ∷ []) h k t = absurd (omega arith)
-utf16_lead big mode (a ∷ b ∷ c ∷ d ∷ rest) h k t = rw (k, t) refl
-
--- The same, as what a reader of two code units answers.
-pub one_answers : (big : Bool) (rest : List ℕ) → 0 < length rest → length rest < 2 → (Malformed ≡ (utf16_unit big Plain rest).item) × (1 ≡ (utf16_unit big Plain rest).len)
-one_answers big rest h k = let e = utf16_one big Plain rest h k in (ap (λ u. u.item) (sym e), ap (λ u. u.len) (sym e))
-
-pub single_answers : (big : Bool) (rest : List ℕ) (u : ℕ) → 2 ≤ length rest → u ≡ code_unit big (get_or rest 0 0) (get_or rest 1 0) → is_lead u ≡ false
-    → ((single_unit Plain u).item ≡ (utf16_unit big Plain rest).item) × (2 ≡ (utf16_unit big Plain rest).len)
-single_answers big rest u h is k =
-    let e : utf16_unit big Plain rest ≡ single_unit Plain u = utf16_single big Plain rest h (ap is_lead (sym is) ∙ k) ∙ ap (single_unit Plain) (sym is) in
-    (ap (λ w. w.item) (sym e), sym (ap (λ w. w.len) e ∙ two (is_trail u) refl))
+-- The first four bytes, or all of fewer, have the unit of the whole.
+pub front_unit : (unit : Code) → IsCode unit → (mode : Mode) (rest : List ℕ) → AreBytes rest → unit mode (take (min (length rest) 4) rest) ≡ unit mode rest
+front_unit unit code mode rest are = by_length (cases_lt (length rest) 4)
   where
-    two : (t : Bool) → is_trail u ≡ t → (single_unit Plain u).len ≡ 2
-    two true f = rw f refl
-    two false f = rw f refl
+    by_length : (length rest < 4) ⊎ (4 ≤ length rest) → unit mode (take (min (length rest) 4) rest) ≡ unit mode rest
+    by_length (inl short) =
+        let n : min (length rest) 4 ≡ length rest = omega arith in
+        rw n (ap (unit mode) (take_all (length rest) rest (omega arith)))
+    by_length (inr long) =
+        let n : min (length rest) 4 ≡ 4 = omega arith in
+        let len : length (take 4 rest) ≡ 4 = length-take-le 4 rest long in
+        rw n (code.first_four mode (take 4 rest) rest (All-take (λ b. b < 256) 4 rest are) are (omega arith) long (take_all 4 (take 4 rest) (omega arith)))
 
-pub cut_answers : (big : Bool) (rest : List ℕ) (u : ℕ) → 2 ≤ length rest → length rest < 4 → u ≡ code_unit big (get_or rest 0 0) (get_or rest 1 0) → is_lead u ≡ true
-    → (Malformed ≡ (utf16_unit big Plain rest).item) × (length rest ≡ (utf16_unit big Plain rest).len)
-cut_answers big rest u h l is k =
-    let e = utf16_cut big Plain rest h l (ap is_lead (sym is) ∙ k) in
-    (ap (λ w. w.item) (sym e), ap (λ w. w.len) (sym e))
-
-pub pair_answers : (big : Bool) (rest : List ℕ) (u v : ℕ) → 4 ≤ length rest → u ≡ code_unit big (get_or rest 0 0) (get_or rest 1 0) → v ≡ code_unit big (get_or rest 2 0) (get_or rest 3 0)
-    → is_lead u ≡ true → is_trail v ≡ true → (One (pair_scalar u v) ≡ (utf16_unit big Plain rest).item) × (4 ≡ (utf16_unit big Plain rest).len)
-pair_answers big rest u v h is_u is_v k t =
-    let e : utf16_unit big Plain rest ≡ scalar_at Plain (pair_scalar u v) 4 = utf16_pair big Plain rest h (ap is_lead (sym is_u) ∙ k) (ap is_trail (sym is_v) ∙ t) ∙ (rw (is_u, is_v) refl) in
-    (ap (λ w. w.item) (sym e), ap (λ w. w.len) (sym e))
-
-pub lead_answers : (big : Bool) (rest : List ℕ) (u v : ℕ) → 4 ≤ length rest → u ≡ code_unit big (get_or rest 0 0) (get_or rest 1 0) → v ≡ code_unit big (get_or rest 2 0) (get_or rest 3 0)
-    → is_lead u ≡ true → is_trail v ≡ false → (Malformed ≡ (utf16_unit big Plain rest).item) × (2 ≡ (utf16_unit big Plain rest).len)
-lead_answers big rest u v h is_u is_v k t =
-    let e = utf16_lead big Plain rest h (ap is_lead (sym is_u) ∙ k) (ap is_trail (sym is_v) ∙ t) in
-    (ap (λ w. w.item) (sym e), ap (λ w. w.len) (sym e))
-
--- The scalar of a sequence is one.
-pub sequence_scalar_is : (bytes : List ℕ) → 0 < sequence_len bytes → IsScalar (sequence_scalar bytes)
-sequence_scalar_is bytes h = (sequence-Decodes bytes h).scalar
-
--- Of a number that is a scalar, `char::from_u32` gives the scalar.
-pub some_scalar : (o : Option ℕ) (c : ℕ) → SomeIff o (IsScalar c) c → IsScalar c → IsSome o
-some_scalar None c h s = absurd (h s)
-some_scalar (Some x) c h s = refl
-
--- The first byte.
-pub windows_1252_answers : (rest : List ℕ) → 0 < length rest → (One (windows_1252_scalar (get_or rest 0 0)) ≡ (windows_1252_unit Plain rest).item) × (1 ≡ (windows_1252_unit Plain rest).len)
-unfolding windows_1252_unit
-windows_1252_answers [] h = absurd (omega arith)
-windows_1252_answers (b ∷ rest) h = (refl, refl)
-
-pub user_defined_answers : (rest : List ℕ) → 0 < length rest → (One (user_defined_scalar (get_or rest 0 0)) ≡ (user_defined_unit Plain rest).item) × (1 ≡ (user_defined_unit Plain rest).len)
-unfolding user_defined_unit
-user_defined_answers [] h = absurd (omega arith)
-user_defined_answers (b ∷ rest) h = (refl, refl)
+-- What a look at these bytes tells, with nothing behind them, is the unit of the whole.
+pub unit_from_front : (unit : Code) → IsCode unit → (mode : Mode) (rest : List ℕ) (n : ℕ) (u : UnitAt) → ((i : ℕ) → get_or rest i 0 < 256) → n ≡ min (length rest) 4
+    → ((more : List ℕ) → MayFollow true more → unit mode (take n rest ++ more) ≡ u) → u ≡ unit mode rest
+unit_from_front unit code mode rest n u fit is decided =
+    sym (decided [] (record { bytes = All-nil (λ b. b < 256); none = λ _. refl }))
+    ∙ (ap (unit mode) (append-nil (take n rest) ∙ ap (λ k. take k rest) is) ∙ front_unit unit code mode rest (are_bytes rest fit))
 
 -- U+FFFD in UTF-8
 pub replacement_is : encode_utf8 0xFFFD ≡ replacement
@@ -176,9 +71,6 @@ built_in_code EucKr indexes h = cc
 
 plain : (mode : Mode) → mode ≡ Plain
 plain Plain = refl
-
-pub are_bytes : (bytes : List ℕ) → ((i : ℕ) → get_or bytes i 0 < 256) → AreBytes bytes
-are_bytes bytes h = All-from_get_or (λ b. b < 256) bytes 0 (λ i k. h i)
 
 -- The text of bytes: that of the unit at the front, then that of what is left.
 pub decoded_some : (encoding : Encoding) (indexes : Indexes) (bytes : List ℕ) → is_built_in encoding ≡ true → AreBytes bytes → 0 < length bytes →

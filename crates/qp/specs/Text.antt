@@ -2,11 +2,11 @@
 use Rattle.std.specs.Prelude.{ℕ, ◌-◌, Bool, ◌==◌, ◌||◌, ◌&&◌, nat_le, List, length, filter, take}
 use Rattle.std.specs.List.{slice_split, suffix_len}
 
--- an octet that may stand in quoted-printable text: tab, LF, CR and 20 to 7E (RFC 2045 6.7, the rules on octets)
+-- an octet that may stand in quoted-printable text: tab, LF, CR and 20 to 7E (RFC 2045 6.7, rules 1 to 4)
 abbrev pub is_text_octet : ℕ → Bool
 is_text_octet b = (b == 9) || (b == 10) || (b == 13) || (nat_le 32 b && nat_le b 126)
 
--- the text of an input: the octets that may stand there, in order; a robust reader drops the others (RFC 2045 6.7, the notes for implementors)
+-- the text of an input: the octets that may stand there, in order; a robust reader drops the others (RFC 2045 6.7, the NOTE on illegal substrings, case 4)
 unfoldable pub kept : List ℕ → List ℕ
 kept input = filter is_text_octet input
 

@@ -8,6 +8,7 @@ use Rattle.std.specs.declared.result.Result.{Result}
 use Rattle.base64.specs.declared.decode.DecodeError.{DecodeError}
 use Rattle.base64.specs.declared.engine.general_purpose.GeneralPurpose.{GeneralPurpose}
 use Rattle.base64.specs.declared.engine.DecodePaddingMode.TheVariants.{RequireCanonical}
+use Rattle.base64.specs.Engines.{standard}
 use Rattle.base64.specs.GeneralPurpose.{IsBytes, IsConfig, IsStrict, decode_of, encode_of, engine_config, engine_padding, engine_symbols}
 use Rattle.base64.specs.Rfc4648.{encode, encode_symbols, padding_len as octet_padding_len}
 use Rattle.words.specs.Base64.{b_value, bits, is_base64, is_letter, letter_value, letters, octets, padding_len}
@@ -285,12 +286,16 @@ cleared-encode_of e s symbols pad config h = rw (symbols, pad, config.0) (cleare
 IsStrict-from : (e : GeneralPurpose) → IsConfig (engine_config e) true false RequireCanonical → IsStrict e
 IsStrict-from e config = (config.1, rw config.2 config.0)
 
--- an engine as `decode` makes it, and what it says of an input under strictness
+-- an engine over the letters that requires padding and allows no trailing bits, and what it says of an input under strictness
 abbrev pub IsOurs : GeneralPurpose → Type 0
 IsOurs e = (engine_symbols e ≡ alphabet) × (engine_padding e ≡ 61) × IsConfig (engine_config e) true false RequireCanonical
 
 abbrev pub DecodesStrictly : GeneralPurpose → List ℕ → Type 0
 DecodesStrictly e input = IsStrict e → (b : List ℕ) → IsBytes b → (decode_of e input ≡ Ok b) ↔ (input ≡ encode_of e b)
+
+-- `STANDARD` is one
+pub standard-is : IsOurs standard
+standard-is = (refl, refl, (refl, refl, refl))
 
 value-decoded : (e : GeneralPurpose) (s : List ℕ) → IsOurs e → is_base64 s ≡ true → DecodesStrictly e (cleared s) → decode_of e (cleared s) ≡ Ok (text_value s)
 value-decoded e s ours h strict =

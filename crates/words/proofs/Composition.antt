@@ -20,8 +20,9 @@ use Rattle.words.specs.Reading.{Part, Encoded, Clear, Gap, reading_of}
 use Rattle.words.specs.Tokens.{is_skipped, tokens_of, too_long_words, display_text, IsLexerFault}
 use Rattle.words.specs.Encoding.{encoding_of}
 use Rattle.words.specs.Fault.{HeaderFault, TooLong, fault_of, parser_fault, from_lexer, from_parser, from_evaluator, IsTextFault}
-use Rattle.words.specs.Header.{Text, clear_text, part_text, word_text, shown_value, value_of, value_by, join_texts, then_text, field_fault, part_encoding_fault, encoding_fault, length_fault, unless_fault, header}
-use Rattle.words.specs.Parsed.{Parsed, ParsedClear, ParsedWord, under_encoding, parsed_part, parsed_parts, then_parsed, parsed_text, parsed_texts}
+use Rattle.words.specs.Header.{Text, clear_text, part_text, word_text, shown_value, value_of, value_by, field_fault, part_encoding_fault, encoding_fault, length_fault, unless_fault, header}
+use Rattle.words.specs.Joined.{then_list, join_lists, one_element}
+use Rattle.words.specs.Parsed.{Parsed, ParsedClear, ParsedWord, under_encoding, parsed_part, parsed_parts, parsed_text, parsed_texts}
 use Rattle.words.proofs.Parsing.{before-nothing}
 use Rattle.words.proofs.Exists.{reading_of-is}
 
@@ -58,7 +59,7 @@ not-empty (b ∷ c ∷ rest) h = λ e. cc
 -- what parsed parts owe to the parts of a header
 record IsParsed (strategy : RecoverStrategy) (indexes : Indexes) (parts : List Part) (parsed : List Parsed) : Type 0 where
   no_fault : encoding_fault strategy parts ≡ None
-  texts : parsed_texts indexes parsed ≡ join_texts (map (part_text strategy indexes) parts)
+  texts : parsed_texts indexes parsed ≡ join_lists (map (part_text strategy indexes) parts)
 
 -- what an error in the place of parsed parts owes to them
 record IsFirstError (strategy : RecoverStrategy) (parts : List Part) (e : ParserError) : Type 0 where
@@ -73,10 +74,10 @@ IsOutcome strategy indexes parts (Err e) = IsFirstError strategy parts e
 -- one more part, which has the text of a parsed one and no faulty encoding field
 more : (strategy : RecoverStrategy) (indexes : Indexes) (part : Part) (parts : List Part) (p : Parsed) (r : Result (List Parsed) ParserError)
     → part_encoding_fault strategy part ≡ None → parsed_text indexes p ≡ part_text strategy indexes part
-    → IsOutcome strategy indexes parts r → IsOutcome strategy indexes (part ∷ parts) (then_parsed (Ok p) r)
+    → IsOutcome strategy indexes parts r → IsOutcome strategy indexes (part ∷ parts) (then_list (one_element (Ok p)) r)
 more strategy indexes part parts p (Ok rest) none same h = record {
   no_fault = ap (λ z. option_or z (encoding_fault strategy parts)) none ∙ h.no_fault;
-  texts = ap (λ z. then_text z (parsed_texts indexes rest)) same ∙ ap (then_text (part_text strategy indexes part)) h.texts;
+  texts = ap (λ z. then_list z (parsed_texts indexes rest)) same ∙ ap (then_list (part_text strategy indexes part)) h.texts;
 }
 more strategy indexes part parts p (Err e) none same h = record {
   named = h.named;
@@ -88,7 +89,7 @@ more-gap : (strategy : RecoverStrategy) (indexes : Indexes) (text : List ℕ) (p
     → IsOutcome strategy indexes parts r → IsOutcome strategy indexes (Gap text ∷ parts) r
 more-gap strategy indexes text parts (Ok rest) h = record {
   no_fault = h.no_fault;
-  texts = h.texts ∙ sym (before-nothing (join_texts (map (part_text strategy indexes) parts)));
+  texts = h.texts ∙ sym (before-nothing (join_lists (map (part_text strategy indexes) parts)));
 }
 more-gap strategy indexes text parts (Err e) h = record { named = h.named; same = h.same }
 
@@ -100,7 +101,7 @@ word-shown indexes w encoding = refl
 -- one more word that isn't skipped, by what its encoding field names
 more-word : (strategy : RecoverStrategy) (indexes : Indexes) (w : Word) (parts : List Part) (r : Result (List Parsed) ParserError) (named : Result Encoding ParserError)
     → 0 < length w.encoding → encoding_of w.encoding ≡ named → is_skipped strategy w ≡ false
-    → IsOutcome strategy indexes parts r → IsOutcome strategy indexes (Encoded w ∷ parts) (then_parsed (under_encoding (charset w.charset indexes) w.text named) r)
+    → IsOutcome strategy indexes parts r → IsOutcome strategy indexes (Encoded w ∷ parts) (then_list (one_element (under_encoding (charset w.charset indexes) w.text named)) r)
 more-word strategy indexes w parts r (Ok encoding) long e kept h =
     more strategy indexes (Encoded w) parts (ParsedWord (charset w.charset indexes) encoding w.text) r
     (ap (λ z. cond z None (field_fault (encoding_of w.encoding))) kept ∙ ap field_fault e)
@@ -116,7 +117,7 @@ more-word strategy indexes w parts r (Err error) long e kept h = record {
 -- one more word, by whether it is skipped
 more-encoded : (strategy : RecoverStrategy) (indexes : Indexes) (w : Word) (parts : List Part) (r : Result (List Parsed) ParserError) (skipped : Bool)
     → 0 < length w.encoding → is_skipped strategy w ≡ skipped
-    → IsOutcome strategy indexes parts r → IsOutcome strategy indexes (Encoded w ∷ parts) (then_parsed (parsed_part indexes (cond skipped (Clear (spelling w)) (Encoded w))) r)
+    → IsOutcome strategy indexes parts r → IsOutcome strategy indexes (Encoded w ∷ parts) (then_list (one_element (parsed_part indexes (cond skipped (Clear (spelling w)) (Encoded w)))) r)
 more-encoded strategy indexes w parts r true long e h =
     more strategy indexes (Encoded w) parts (ParsedClear (spelling w)) r
     (ap (λ z. cond z None (field_fault (encoding_of w.encoding))) e)
@@ -146,7 +147,7 @@ pub header-parsed : (strategy : RecoverStrategy) (indexes : Indexes) (s : List �
 unfolding header
 header-parsed strategy indexes s parsed short is =
     let parts : List Part = reading_of s in
-    let texts : Text = join_texts (map (part_text strategy indexes) parts) in
+    let texts : Text = join_lists (map (part_text strategy indexes) parts) in
     let h : IsParsed strategy indexes parts parsed = subst (IsOutcome strategy indexes parts) is (outcome strategy indexes parts (reading-fields s)) in
     ap (λ z. unless_fault (length_fault z) (unless_fault (encoding_fault strategy parts) texts)) short ∙
     (ap (λ z. unless_fault z texts) h.no_fault ∙ sym h.texts)
@@ -156,7 +157,7 @@ header-fault : (strategy : RecoverStrategy) (indexes : Indexes) (s : List ℕ) (
 unfolding header
 header-fault strategy indexes s fault short is =
     let parts : List Part = reading_of s in
-    let texts : Text = join_texts (map (part_text strategy indexes) parts) in
+    let texts : Text = join_lists (map (part_text strategy indexes) parts) in
     ap (λ z. unless_fault (length_fault z) (unless_fault (encoding_fault strategy parts) texts)) short ∙ ap (λ z. unless_fault z texts) is
 
 -- an error of the parser is the header's
@@ -183,7 +184,7 @@ header-long : (strategy : RecoverStrategy) (indexes : Indexes) (s : List ℕ)
 unfolding header
 header-long strategy indexes s h =
     let parts : List Part = reading_of s in
-    ap (λ z. unless_fault z (unless_fault (encoding_fault strategy parts) (join_texts (map (part_text strategy indexes) parts)))) (length-faults (too_long_words strategy parts) h)
+    ap (λ z. unless_fault z (unless_fault (encoding_fault strategy parts) (join_lists (map (part_text strategy indexes) parts)))) (length-faults (too_long_words strategy parts) h)
 
 -- an error of the lexer is the header's
 pub header-lexer : (strategy : RecoverStrategy) (indexes : Indexes) (s : List ℕ) (e : LexerError)

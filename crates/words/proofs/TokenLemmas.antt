@@ -1,8 +1,8 @@
 -- The tokens that are still to come, where a header is read from left to right.
-use Rattle.std.proofs.Common.{◌≡◌, ℕ, suc, ◌<◌, Bool, true, false, ◌&&◌, cond, List, [], ◌∷◌, ◌++◌, length, refl, sym, ap, ◌∙◌, subst, arith, append_assoc}
+use Rattle.std.proofs.Common.{◌≡◌, ℕ, suc, Bool, true, false, ◌&&◌, cond, List, [], ◌∷◌, ◌++◌, length, refl, sym, ap, ◌∙◌, subst, arith, append_assoc}
 use Rattle.std.specs.List.{flat_map, list_all}
 use Rattle.std.proofs.lemmas.Grind.{flat_map-append}
-use Rattle.std.proofs.lemmas.List.{append-nil, length-append}
+use Rattle.std.proofs.lemmas.List.{append-nil}
 use Rattle.words.specs.declared.strategy.RecoverStrategy.{RecoverStrategy}
 use Rattle.words.specs.declared.strategy.RecoverStrategy.TheVariants.{Decode, Skip, Abort}
 use Rattle.words.specs.Word.{Word, spelling}
@@ -11,7 +11,7 @@ use Rattle.words.specs.Tokens.{long_word, long_words, too_long_words, part_token
 use Rattle.words.specs.Lexer.{NoWordBefore, IsFirstWord, text_tokens}
 use Rattle.words.proofs.Words.{begins-word_at}
 use Rattle.words.proofs.ByParts.{NoWord}
-use Rattle.words.proofs.Unique.{spelling-long, pieces-clear, pieces-spelling, pieces-end, text_before, joined-clear, text_before-fresh}
+use Rattle.words.proofs.Unique.{pieces-clear, pieces-spelling, pieces-end, text_before, joined-clear, text_before-fresh}
 
 -- the parts of what is left of a header, where `after_word` tells whether a word stands before it
 abbrev pub parts_after : Bool → List ℕ → List Part
@@ -81,11 +81,6 @@ tokens-turn strategy a s before w after sofar with_text with_word whole h t v e 
     ap (λ z. z ++ later) (v ∙ ap (λ z. z ++ one) t) ∙
     (append_assoc (sofar ++ text_tokens a before) one later ∙ (append_assoc sofar (text_tokens a before) (one ++ later) ∙
     (ap (λ z. sofar ++ z) (sym (tokens-word strategy a s before w after h)) ∙ e)))
-
--- what is left behind a word is shorter
-pub first_word-shorter : (s before : List ℕ) (w : Word) (after : List ℕ) → IsFirstWord s before w after → length after < length s
-first_word-shorter s before w after h =
-    omega (arith, ap length h.whole, length-append before (spelling w ++ after), length-append (spelling w) after, spelling-long w)
 
 -- where no word is skipped, the tokens have the words of the parts
 long_words-tokens : (parts : List Part) → long_words (tokens_of Abort parts) ≡ long_words parts

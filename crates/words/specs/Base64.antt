@@ -39,10 +39,10 @@ padding_len text = suffix_len (λ b. b == 61) text
 abbrev pub letters : List ℕ → List ℕ
 letters text = take (length text - padding_len text) text
 
--- a text in fours of letters, the last of which may have one or two `=` in place of its last letters
+-- a text in fours of letters, the last of which may have one or two `=` in place of its last letters; narrower than RFC 2045, section 6.8, by which a decoder ignores bytes outside the alphabet: a text with such a byte has no value here
 abbrev pub is_base64 : List ℕ → Bool
 is_base64 text = (length text % 4 == 0) && nat_le (padding_len text) 2 && list_all is_letter (letters text)
 
--- the octets that a B text stands for: its letters' six bits each, taken in eights
+-- the octets that a B text stands for: its letters' six bits each, taken in eights; bits of the last letter that fill no octet are dropped, whatever they are
 unfoldable pub b_value : List ℕ → Option (List ℕ)
 b_value text = if is_base64 text then Some (octets (flat_map (λ b. bits 6 (letter_value b)) (letters text))) else None

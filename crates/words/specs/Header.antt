@@ -1,5 +1,5 @@
 -- The text of a header, or why it has none: RFC 2047, sections 4 and 6.
-use Rattle.std.specs.Prelude.{ℕ, ◌==◌, if◌then◌else◌, Option, Some, None, Result, Ok, Err, List, [], ◌∷◌, ◌++◌, map}
+use Rattle.std.specs.Prelude.{ℕ, ◌==◌, if◌then◌else◌, Option, Some, None, Result, Ok, Err, List, [], ◌∷◌, map}
 use Rattle.std.specs.Option.{option_or}
 use Rattle.std.specs.Str.{is_utf8}
 use Rattle.std.specs.Str.Lossy.{utf8_valid_len}
@@ -15,6 +15,7 @@ use Rattle.words.specs.Reading.{Part, Encoded, Clear, Gap, reading_of}
 use Rattle.words.specs.Tokens.{is_skipped, too_long_words, display_text}
 use Rattle.words.specs.Base64.{b_value}
 use Rattle.words.specs.Encoding.{encoding_of}
+use Rattle.words.specs.Joined.{join_lists}
 use Rattle.words.specs.Fault.{HeaderFault, TooLong, NotUtf8, NotBase64, parser_fault}
 
 -- an underscore stands for a space: RFC 2047, section 4.2, rule 2
@@ -43,12 +44,12 @@ shown_value shown (Some value) = Ok (shown value)
 abbrev pub clear_text : List ℕ → Text
 clear_text bytes = if is_utf8 bytes then Ok bytes else Err (NotUtf8 (utf8_valid_len bytes))
 
--- the value that a field's encoding gives a text, if there is one
+-- the value of a text under the encoding that a field names; there is none where the field names none
 abbrev pub value_by : Result Encoding ParserError → List ℕ → Option (List ℕ)
 value_by (Ok encoding) text = value_of encoding text
 value_by (Err error) text = None
 
--- a word that is decoded: the value of its text in its charset
+-- the text of a word that is decoded: the value of its text in its charset. Where its encoding field names no encoding this is a fault like that of a wrong B text, and never a header's, since `parts_text` looks for faults of encoding fields first
 abbrev pub word_text : Indexes → Word → Text
 word_text indexes w = shown_value (charset_text w.charset indexes) (value_by (encoding_of w.encoding) w.text)
 
@@ -57,21 +58,6 @@ abbrev pub part_text : RecoverStrategy → Indexes → Part → Text
 part_text strategy indexes (Encoded w) = if is_skipped strategy w then clear_text (spelling w) else word_text indexes w
 part_text strategy indexes (Clear text) = clear_text text
 part_text strategy indexes (Gap text) = Ok []
-
--- a text before another; the first fault stands
-abbrev pub before_text : List ℕ → Text → Text
-before_text text (Ok rest) = Ok (text ++ rest)
-before_text text (Err fault) = Err fault
-
--- the first of two texts, or its fault, before the second
-abbrev pub then_text : Text → Text → Text
-then_text (Ok text) rest = before_text text rest
-then_text (Err fault) rest = Err fault
-
--- texts one after another, or the first fault among them
-abbrev pub join_texts : List Text → Text
-join_texts [] = Ok []
-join_texts (first ∷ rest) = then_text first (join_texts rest)
 
 -- why an encoding field names no encoding
 abbrev pub field_fault : Result Encoding ParserError → Option HeaderFault
@@ -104,7 +90,7 @@ abbrev pub parts_text : RecoverStrategy → Indexes → List Part → Text
 parts_text strategy indexes parts =
     unless_fault (length_fault (too_long_words strategy parts))
     (unless_fault (encoding_fault strategy parts)
-    (join_texts (map (part_text strategy indexes) parts)))
+    (join_lists (map (part_text strategy indexes) parts)))
 
 -- the text of a header, or why it has none: RFC 2047, sections 2, 4 and 6
 unfoldable pub header : RecoverStrategy → Indexes → List ℕ → Text

@@ -6,8 +6,8 @@ use Rattle.words.specs.Reading.{Part, Clear, is_gap_byte}
 use Rattle.words.specs.declared.lexer.WordSlices.{WordSlices}
 
 -- the word that the slices show
-abbrev pub word_of : WordSlices → Word
-word_of slices = record { charset = slices.charset.now; encoding = slices.encoding.now; text = slices.encoded_text.now }
+abbrev pub sliced_word : WordSlices → Word
+sliced_word slices = record { charset = slices.charset.now; encoding = slices.encoding.now; text = slices.encoded_text.now }
 
 -- a list of these bytes, a question mark and more
 abbrev pub SplitsAtMark : List ℕ → List ℕ → List ℕ → Type 0

@@ -6,6 +6,7 @@ pub mod Tokens
 pub mod Base64
 pub mod Encoding
 pub mod Fault
+pub mod Joined
 pub mod Header
 pub mod Parsed
 pub mod SpareBits

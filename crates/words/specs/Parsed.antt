@@ -1,5 +1,5 @@
 -- Words whose charsets and encodings are found, and their texts.
-use Rattle.std.specs.Prelude.{ℕ, Option, Result, Ok, Err, List, [], ◌∷◌, ◌++◌, map, IsTrue, IfSome}
+use Rattle.std.specs.Prelude.{ℕ, Option, Result, Ok, Err, List, map, IsTrue, IfSome}
 use Rattle.std.specs.Option.{option_map, option_map_or}
 use Rattle.enc_front.specs.declared.names.Encoding as front
 use Rattle.enc_front.specs.Indexes.{Indexes, known}
@@ -12,9 +12,10 @@ use Rattle.words.specs.declared.parser.ParsedEncodedWord.TheVariants as variant
 use Rattle.words.specs.Word.{Word}
 use Rattle.words.specs.Reading.{Part, Encoded, Clear, Gap}
 use Rattle.words.specs.Encoding.{encoding_of}
-use Rattle.words.specs.Header.{Text, clear_text, value_of, shown_value, join_texts}
+use Rattle.words.specs.Joined.{join_lists, one_element}
+use Rattle.words.specs.Header.{Text, clear_text, value_of, shown_value}
 
--- a part of a header after parsing: clear text, or a word by its charset, if that is known, its encoding and its text
+-- a token after parsing: clear text, or a word by its charset, if that is known, its encoding and its text
 pub data Parsed : Type 0 where
   ParsedClear : List ℕ → Parsed
   ParsedWord : Option front.Encoding → Encoding → List ℕ → Parsed
@@ -38,26 +39,15 @@ under_encoding found text (Err error) = Err error
 abbrev pub parsed_word : Indexes → Word → Result Parsed ParserError
 parsed_word indexes w = under_encoding (charset w.charset indexes) w.text (encoding_of w.encoding)
 
--- a part as it is parsed
+-- a token as it is parsed; no token shows a gap (`part_of`), so nothing rests on the last line
 abbrev pub parsed_part : Indexes → Part → Result Parsed ParserError
 parsed_part indexes (Encoded w) = parsed_word indexes w
 parsed_part indexes (Clear text) = Ok (ParsedClear text)
 parsed_part indexes (Gap text) = Ok (ParsedClear text)
 
--- parsed parts before others; an error stands
-abbrev pub before_parsed : List Parsed → Result (List Parsed) ParserError → Result (List Parsed) ParserError
-before_parsed front (Ok rest) = Ok (front ++ rest)
-before_parsed front (Err error) = Err error
-
--- one parsed part, or its error, before others
-abbrev pub then_parsed : Result Parsed ParserError → Result (List Parsed) ParserError → Result (List Parsed) ParserError
-then_parsed (Ok first) rest = before_parsed (first ∷ []) rest
-then_parsed (Err error) rest = Err error
-
--- parts as they are parsed, in order, or the error of the first encoding field that has one
+-- tokens as they are parsed, in order, or the error of the first encoding field that has one
 abbrev pub parsed_parts : Indexes → List Part → Result (List Parsed) ParserError
-parsed_parts indexes [] = Ok []
-parsed_parts indexes (part ∷ rest) = then_parsed (parsed_part indexes part) (parsed_parts indexes rest)
+parsed_parts indexes parts = join_lists (map (λ part. one_element (parsed_part indexes part)) parts)
 
 -- bytes in a charset, or in ASCII where the charset is unknown
 abbrev pub in_charset : Option front.Encoding → Indexes → List ℕ → List ℕ
@@ -70,4 +60,4 @@ parsed_text indexes (ParsedWord found encoding text) = shown_value (in_charset f
 
 -- the texts of parsed parts joined, or the first fault among them
 abbrev pub parsed_texts : Indexes → List Parsed → Text
-parsed_texts indexes parts = join_texts (map (parsed_text indexes) parts)
+parsed_texts indexes parts = join_lists (map (parsed_text indexes) parts)

@@ -1,15 +1,12 @@
 //! The values of B texts (RFC 2047, section 4.1; RFC 2045, section 6.8).
-ghost use Rattle.std.specs.Prelude.{◌≡◌, ◌<◌, ◌^◌, ℕ, true, false, IfOk, IsTrue};
+ghost use Rattle.std.specs.Prelude.{◌≡◌, ◌<◌, ◌^◌, IfOk, IsTrue};
 ghost use Rattle.std.specs.List.{list_all};
 ghost use Rattle.std.specs.Option.{option_map};
-ghost use Rattle.base64.specs.GeneralPurpose.{IsConfig, engine_config, engine_padding, engine_symbols};
-ghost use Rattle.base64.specs.declared.engine.DecodePaddingMode.TheVariants.{RequireCanonical};
 ghost use Rattle.words.specs.Base64.{b_value, is_base64, is_letter, letter_value, padding_len};
-ghost use Rattle.words.specs.SpareBits.{alphabet, cleared, rounded_letter};
+ghost use Rattle.words.specs.SpareBits.{cleared, rounded_letter};
 
 use base64::DecodeAllocError;
-use base64::alphabet::Alphabet;
-use base64::engine::general_purpose::{GeneralPurpose, GeneralPurposeConfig};
+use base64::engine::general_purpose::STANDARD;
 use std::alloc::{AllocError, Global};
 
 // The letters by their six-bit values.
@@ -21,18 +18,6 @@ const GROUP_LEN: usize = 4;
 
 // The most `=` that a text may end in.
 const MAX_PADDING: usize = 2;
-
-// The engine over the letters, which requires padding and allows no trailing bits.
-fn engine() -> GeneralPurpose
-    ensures symbols { engine_symbols result ≡ alphabet }
-    ensures padding { engine_padding result ≡ 61 }
-    ensures config { IsConfig (engine_config result) true false RequireCanonical }
-{
-    let Ok(letters) = Alphabet::new(LETTERS) else {
-        unreachable!();
-    };
-    GeneralPurpose::new(&letters, GeneralPurposeConfig::new())
-}
 
 fn is_letter(byte: u8) -> bool
     ensures { result ≡ is_letter byte }
@@ -93,18 +78,16 @@ fn rounded_letter(letter: u8, padding: usize) -> u8
     LETTERS.as_bytes()[rounded as usize]
 }
 
-// A copy of a text, in which the spare bits of the last letter are cleared.
-fn without_spare_bits(alloc: Global, text: &[u8]) -> Result<Vec<u8>, AllocError>
-    requires { IsTrue (is_base64 text.now) }
-    ensures { IfOk result (λ v. v.items ≡ cleared text.now) }
+// Clears the spare bits of a text's last letter.
+fn clear_spare_bits(text: &mut [u8])
+    requires { IsTrue (is_base64 text.old) }
+    ensures { text.new ≡ cleared text.old }
 {
-    let mut copy = Vec::from_slice(alloc, text)?;
     let padding = padding_len(text);
     if text.len() > padding {
         let last = text.len() - padding - 1;
-        copy[last] = rounded_letter(text[last], padding);
+        text[last] = rounded_letter(text[last], padding);
     }
-    Ok(copy)
 }
 
 /// The octets that a B text stands for. There are none where the text isn't in fours of letters,
@@ -112,14 +95,14 @@ fn without_spare_bits(alloc: Global, text: &[u8]) -> Result<Vec<u8>, AllocError>
 /// last letter are dropped.
 ///
 /// It fails only for want of memory.
-pub fn decode(alloc: Global, text: &[u8]) -> Result<Option<Vec<u8>>, AllocError>
-    ensures value { IfOk result (λ found. option_map (λ v. v.items) found ≡ b_value text.now) }
+pub fn decode(alloc: Global, mut text: Vec<u8>) -> Result<Option<Vec<u8>>, AllocError>
+    ensures value { IfOk result (λ found. option_map (λ v. v.items) found ≡ b_value text.items) }
 {
-    if !is_base64(text) {
+    if !is_base64(&text) {
         return Ok(None);
     }
-    let canonical = without_spare_bits(alloc, text)?;
-    match engine().decode(alloc, canonical.as_slice()) {
+    clear_spare_bits(&mut text);
+    match STANDARD.decode(alloc, &text) {
         Ok(value) => Ok(Some(value)),
         Err(DecodeAllocError::DecodeError(_)) => unreachable!(),
         Err(DecodeAllocError::OutOfMemory) => Err(AllocError),

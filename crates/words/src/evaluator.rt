@@ -1,5 +1,5 @@
 //! The text of parsed words and of clear text (RFC 2047, sections 4 and 6).
-ghost use Rattle.std.specs.Prelude.{◌≡◌, ◌⊎◌, Ok, Err, Some, None, map, All, IsTrue, IfOk, IfErr, IfSome, string_bytes};
+ghost use Rattle.std.specs.Prelude.{◌≡◌, ◌⊎◌, Ok, Err, Some, None, [], map, All, IsTrue, IfOk, IfErr, IfSome, string_bytes};
 ghost use Rattle.std.specs.Option.{option_map};
 ghost use Rattle.enc_front.specs.Charsets.{encoding_of};
 ghost use Rattle.enc_front.specs.Indexes.{indexes_of, known};
@@ -48,10 +48,10 @@ impl From<AllocError> for EvaluatorError {
 }
 
 // The value of a B text.
-fn decode_base64(alloc: Global, encoded_bytes: &[u8]) -> Result<Vec<u8>, EvaluatorError>
-    ensures value { IfOk result (λ value. b_value encoded_bytes.now ≡ Some value.items) }
+fn decode_base64(alloc: Global, encoded_bytes: Vec<u8>) -> Result<Vec<u8>, EvaluatorError>
+    ensures value { IfOk result (λ value. b_value encoded_bytes.items ≡ Some value.items) }
     ensures fault { IfErr result (λ error. (error ≡ Memory) ⊎
-        ((error ≡ DecodeBase64Error) × (b_value encoded_bytes.now ≡ None))) }
+        ((error ≡ DecodeBase64Error) × (b_value encoded_bytes.items ≡ None))) }
 {
     match b_text::decode(alloc, encoded_bytes)? {
         Some(value) => Ok(value),
@@ -59,22 +59,24 @@ fn decode_base64(alloc: Global, encoded_bytes: &[u8]) -> Result<Vec<u8>, Evaluat
     }
 }
 
-// A Q text with each underscore as the space that it stands for.
-fn with_spaces(alloc: Global, text: &[u8]) -> Result<Vec<u8>, AllocError>
-    ensures { IfOk result (λ spaced. spaced.items ≡ map underscore_to_space text.now) }
+// Puts the space in the place of each underscore that stands for it.
+fn underscores_to_spaces(text: &mut [u8])
+    ensures { text.new ≡ map underscore_to_space text.old }
 {
-    text.iter()
-        .map(|byte| if *byte == b'_' { b' ' } else { *byte })
-        .collect(alloc)
+    for byte in text.iter_mut() {
+        if *byte == b'_' {
+            *byte = b' ';
+        }
+    }
 }
 
 // The value of a Q text (RFC 2047, section 4.2).
 #[tactic(auto, unfolding(crate::specs::Header::q_value))]
-fn decode_quoted_printable(alloc: Global, encoded_bytes: &[u8]) -> Result<Vec<u8>, AllocError>
-    ensures { IfOk result (λ value. value.items ≡ q_value encoded_bytes.now) }
+fn decode_quoted_printable(alloc: Global, mut encoded_bytes: Vec<u8>) -> Result<Vec<u8>, AllocError>
+    ensures { IfOk result (λ value. value.items ≡ q_value encoded_bytes.items) }
 {
-    let spaced = with_spaces(alloc, encoded_bytes)?;
-    match qp::decode(alloc, &spaced, ParseMode::Robust) {
+    underscores_to_spaces(&mut encoded_bytes);
+    match qp::decode(alloc, &encoded_bytes, ParseMode::Robust) {
         Ok(value) => Ok(value),
         Err(_) => Err(AllocError),
     }
@@ -84,11 +86,11 @@ fn decode_quoted_printable(alloc: Global, encoded_bytes: &[u8]) -> Result<Vec<u8
 fn decode_with_encoding(
     alloc: Global,
     encoding: Encoding,
-    encoded_bytes: &[u8],
+    encoded_bytes: Vec<u8>,
 ) -> Result<Vec<u8>, EvaluatorError>
-    ensures value { IfOk result (λ value. value_of encoding encoded_bytes.now ≡ Some value.items) }
+    ensures value { IfOk result (λ value. value_of encoding encoded_bytes.items ≡ Some value.items) }
     ensures fault { IfErr result (λ error. (error ≡ Memory) ⊎
-        ((error ≡ DecodeBase64Error) × (value_of encoding encoded_bytes.now ≡ None))) }
+        ((error ≡ DecodeBase64Error) × (value_of encoding encoded_bytes.items ≡ None))) }
 {
     match encoding {
         Encoding::B => decode_base64(alloc, encoded_bytes),
@@ -132,14 +134,14 @@ fn decode_parsed_encoded_word(
     alloc: Global,
     charset: Option<Charset>,
     encoding: Encoding,
-    encoded_text: &[u8],
+    encoded_text: Vec<u8>,
     tables: &Tables,
 ) -> Result<String, EvaluatorError>
     requires { IfSome charset (λ found. IsTrue (known (encoding_of found) (indexes_of tables.now))) }
     ensures text { IfOk result (λ text. parsed_text (indexes_of tables.now)
-        (ParsedWord (option_map encoding_of charset) encoding encoded_text.now) ≡ Ok (string_bytes text)) }
+        (ParsedWord (option_map encoding_of charset) encoding encoded_text.items) ≡ Ok (string_bytes text)) }
     ensures fault { IfErr result (IsTextFault (parsed_text (indexes_of tables.now)
-        (ParsedWord (option_map encoding_of charset) encoding encoded_text.now))) }
+        (ParsedWord (option_map encoding_of charset) encoding encoded_text.items))) }
 {
     let decoded_bytes = decode_with_encoding(alloc, encoding, encoded_text)?;
     let decoded_str = decode_with_charset(alloc, charset, &decoded_bytes, tables)?;
@@ -163,8 +165,27 @@ fn decode_part(
             charset,
             encoding,
             encoded_text,
-        } => decode_parsed_encoded_word(alloc, charset, encoding, &encoded_text, tables),
+        } => decode_parsed_encoded_word(alloc, charset, encoding, encoded_text, tables),
     }
+}
+
+// At least as many bytes as a part's text has: a byte of a word stands for at most three bytes.
+fn most_bytes(part: &ParsedEncodedWord) -> usize {
+    match part {
+        ParsedEncodedWord::ClearText(clear_text) => clear_text.len(),
+        ParsedEncodedWord::EncodedWord { encoded_text, .. } => encoded_text.len().saturating_mul(3),
+    }
+}
+
+// An empty text with room for the texts of all parts.
+fn text_for(alloc: Global, parts: &[ParsedEncodedWord]) -> Result<String, AllocError>
+    ensures { IfOk result (λ text. string_bytes text ≡ []) }
+{
+    let mut most = 0usize;
+    for part in parts {
+        most = most.saturating_add(most_bytes(part));
+    }
+    String::with_capacity(alloc, most)
 }
 
 /// The texts of parsed words and of clear text, joined: of a word its value in
@@ -185,7 +206,7 @@ pub fn run(
     ensures fault { IfErr result (IsTextFault
         (parsed_texts (indexes_of tables.now) (map parsed_of parsed.items))) }
 {
-    let mut text = String::new(alloc);
+    let mut text = text_for(alloc, &parsed)?;
     for part in parsed {
         let part_text = decode_part(alloc, part, tables)?;
         text.push_str(&part_text)?;

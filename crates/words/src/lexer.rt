@@ -4,8 +4,8 @@ ghost use Rattle.std.specs.List.{list_any, list_all, position};
 ghost use Rattle.std.specs.Option.{option_map};
 ghost use Rattle.words.specs.Word.{especials, is_field_byte, is_text_byte, IsField, IsText, spelling, word_at};
 ghost use Rattle.words.specs.Reading.{Encoded, part_spelling, is_gap_byte, reading_of};
-ghost use Rattle.words.specs.Tokens.{long_words, too_long_words, display_text, part_tokens, tokens_of, word_of as owned_word, part_of, TokenHasLen, comma_joined, texts_of, IsLexerFault};
-ghost use Rattle.words.specs.Lexer.{word_of, SplitsAtMark, NoWordBefore, IsFirstWord, text_tokens};
+ghost use Rattle.words.specs.Tokens.{long_words, too_long_words, display_text, part_tokens, tokens_of, word_of, part_of, TokenHasLen, comma_joined, texts_of, IsLexerFault};
+ghost use Rattle.words.specs.Lexer.{sliced_word, SplitsAtMark, NoWordBefore, IsFirstWord, text_tokens};
 
 pub mod encoded_word;
 
@@ -95,8 +95,8 @@ fn split_encoded_text(bytes: &[u8]) -> Option<(&[u8], &[u8])>
 /// The encoded word that begins `bytes`, if one does. It looks no further than
 /// the first byte that can't stand in the word.
 pub fn word_at(bytes: &[u8]) -> Option<WordSlices<'_>>
-    ensures value { option_map word_of result ≡ word_at bytes.now }
-    ensures spelled { IfSome result (λ w. w.spelling.now ≡ spelling (word_of w)) }
+    ensures value { option_map sliced_word result ≡ word_at bytes.now }
+    ensures spelled { IfSome result (λ w. w.spelling.now ≡ spelling (sliced_word w)) }
 {
     let inside = bytes.strip_prefix(b"=?")?;
     let (charset, rest) = split_field(inside)?;
@@ -209,8 +209,8 @@ struct FirstWord<'a> {
 // have no `=` and texts have no question mark, so the next `=?` stands at most
 // one byte before that one, and all attempts together are linear in the bytes.
 fn first_word(bytes: &[u8]) -> Option<FirstWord<'_>>
-    ensures found { IfSome result (λ f. IsFirstWord bytes.now f.before.now (word_of f.word) f.after.now) }
-    ensures spelled { IfSome result (λ f. f.word.spelling.now ≡ spelling (word_of f.word)) }
+    ensures found { IfSome result (λ f. IsFirstWord bytes.now f.before.now (sliced_word f.word) f.after.now) }
+    ensures spelled { IfSome result (λ f. f.word.spelling.now ≡ spelling (sliced_word f.word)) }
     ensures none { IfNone result (NoWordBefore bytes.now (length bytes.now)) }
 {
     let mut at = 0;
@@ -257,7 +257,7 @@ fn push_clear_text(
 
 // A word that is to be decoded.
 fn to_encoded_word(alloc: Global, word: &WordSlices) -> Result<EncodedWord, AllocError>
-    ensures { IfOk result (λ owned. owned_word owned ≡ word_of word.now) }
+    ensures { IfOk result (λ owned. word_of owned ≡ sliced_word word.now) }
 {
     let charset = word.charset.to_vec(alloc)?;
     let encoding = word.encoding.to_vec(alloc)?;
@@ -272,9 +272,9 @@ fn push_word(
     word: &WordSlices,
     strategy: RecoverStrategy,
 ) -> Result<(), AllocError>
-    requires { word.now.spelling.now ≡ spelling (word_of word.now) }
+    requires { word.now.spelling.now ≡ spelling (sliced_word word.now) }
     ensures { OnOk result
-        (map part_of tokens.new.items ≡ map part_of tokens.old.items ++ part_tokens strategy (Encoded (word_of word.now))) }
+        (map part_of tokens.new.items ≡ map part_of tokens.old.items ++ part_tokens strategy (Encoded (sliced_word word.now))) }
 {
     let too_long = word.spelling.len() > EncodedWord::MAX_LENGTH;
     let token = if too_long && strategy == RecoverStrategy::Skip {

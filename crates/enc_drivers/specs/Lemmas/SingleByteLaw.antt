@@ -1,13 +1,13 @@
--- The laws of windows-1252 and x-user-defined.
+-- The laws of the encodings of one byte a scalar.
 use Rattle.std.proofs.Common.{◌≡◌, ℕ, zero, suc, ◌+◌, ◌-◌, ◌<◌, ◌≤◌, Bool, true, false, List, [], ◌∷◌, length, get_or, take, refl, ap, arith, lit<, ltb-true}
-use Rattle.std.specs.Prelude.{nat_le, nat_lt, ◌&&◌}
+use Rattle.std.specs.Prelude.{nat_le, nat_lt, ◌&&◌, Option, Some, None}
 use Rattle.std.specs.List.{list_all}
 use Rattle.std.specs.Char.{IsScalar}
 use Rattle.std.proofs.lemmas.Bool.{and_parts}
 use Rattle.std.proofs.lemmas.List.Elements.{All-head}
 use Rattle.enc_drivers.specs.declared.Mode.{Mode}
-use Rattle.enc_drivers.specs.Units.{scalar_at, IsCode, IsUnitOf, AreBytes}
-use Rattle.enc_drivers.specs.SingleByte.{windows_1252_table, windows_1252_scalar, user_defined_scalar, windows_1252_unit, user_defined_unit}
+use Rattle.enc_drivers.specs.Units.{scalar_at, IsCode, IsUnitOf, AreBytes, HasScalars, item_text}
+use Rattle.enc_drivers.specs.SingleByte.{windows_1252_table, windows_1252_scalar, user_defined_scalar, windows_1252_unit, user_defined_unit, Places, FindsScalars, HasNoAstral, single_byte_item, single_byte_unit}
 use Rattle.enc_drivers.specs.Lemmas.Scalars.{scalar_low, scalar_high, encode_three}
 
 -- each entry of a table, by a test that computes
@@ -75,3 +75,36 @@ user_defined_law = record { each = each; first_four = first_four }
     first_four mode [] b are bre h k e = absurd (omega arith)
     first_four mode (x ∷ xs) [] are bre h k e = absurd (omega arith)
     first_four mode (x ∷ xs) (y ∷ ys) are bre h k e = ap (λ z. scalar_at mode (user_defined_scalar z) 1) (same_head x y xs ys e)
+
+single_byte_item_is : (places : Places) (b : ℕ) → b < 256 → FindsScalars places → HasNoAstral places → HasScalars (single_byte_item places b) × (length (item_text (single_byte_item places b)) ≤ 3)
+unfolding single_byte_item
+single_byte_item_is places b h finds narrow = by_test (nat_lt b 0x80) refl (places (b - 0x80)) refl
+  where
+    by_test : (t : Bool) → nat_lt b 0x80 ≡ t → (o : Option ℕ) → places (b - 0x80) ≡ o → HasScalars (single_byte_item places b) × (length (item_text (single_byte_item places b)) ≤ 3)
+    by_test true e o f = rw e (scalar_low b (omega arith), encode_three b (omega arith))
+    by_test false e (Some c) f =
+        let scalar : IsScalar c = finds (b - 0x80) c f in
+        let small : c < 0x10000 = narrow (b - 0x80) c f in
+        rw (e, f) (scalar, encode_three c small)
+    by_test false e None f = rw (e, f) (tt, omega arith)
+
+pub single_byte_law : (places : Places) → FindsScalars places → HasNoAstral places → IsCode (single_byte_unit places)
+unfolding single_byte_unit
+single_byte_law places finds narrow = record { each = each; first_four = first_four }
+  where
+    each : (mode : Mode) (rest : List ℕ) → AreBytes rest → 0 < length rest → IsUnitOf rest (single_byte_unit places mode rest)
+    each mode [] are h = absurd (omega arith)
+    each mode (b ∷ rest) are h =
+        let is = single_byte_item_is places b (All-head (λ c. c < 256) b rest are) finds narrow in
+        record {
+          some = omega arith;
+          four = omega arith;
+          within = omega arith;
+          scalars = is.0;
+          short_text = is.1;
+        }
+
+    first_four : (mode : Mode) (a b : List ℕ) → AreBytes a → AreBytes b → 4 ≤ length a → 4 ≤ length b → take 4 a ≡ take 4 b → single_byte_unit places mode a ≡ single_byte_unit places mode b
+    first_four mode [] b are bre h k e = absurd (omega arith)
+    first_four mode (x ∷ xs) [] are bre h k e = absurd (omega arith)
+    first_four mode (x ∷ xs) (y ∷ ys) are bre h k e = ap (λ z. record { item = single_byte_item places z; len = 1; next = mode }) (same_head x y xs ys e)

@@ -3,7 +3,7 @@ use Rattle.std.proofs.Common.{◌≡◌, ℕ, suc, ◌+◌, ◌<◌, ◌≤◌, 
 use Rattle.std.specs.Prelude.{nat_le, nat_lt, ◌&&◌, ◌||◌}
 use Rattle.std.specs.Char.{encode_utf8}
 use Rattle.std.proofs.lemmas.Bool.{and_parts, or_cases, eqb-false, lt-ltb}
-use Rattle.enc_handles.specs.Utf8.{byte_in, is_tail_at, begins_two, begins_three, begins_four, sequence_len, sequence_scalar}
+use Rattle.enc_handles.specs.Utf8.{byte_in, is_tail_at, sequence_len, sequence_scalar}
 use Rattle.enc_drivers.specs.declared.Mode.{Mode}
 use Rattle.enc_drivers.specs.Units.{scalar_at, malformed_at, IsCode, IsUnitOf, AreBytes}
 use Rattle.enc_drivers.specs.Utf8.{begins_pair, two_of_three, two_of_four, malformed_len, utf8_unit}
@@ -26,118 +26,11 @@ byte_at bytes k low high e =
       high_end = leb-true (get_or bytes k 0) high q.1;
     }
 
--- no row of the table begins the bytes
-pub record NoRow (bytes : List ℕ) : Type 0 where
-  pub not_one : (byte_in bytes 0 0x00 0x7F) ≡ false
-  pub not_two : (begins_two bytes 0xC2 0xDF) ≡ false
-  pub not_three_e0 : (begins_three bytes 0xE0 0xE0 0xA0 0xBF) ≡ false
-  pub not_three_e1 : (begins_three bytes 0xE1 0xEC 0x80 0xBF) ≡ false
-  pub not_three_ed : (begins_three bytes 0xED 0xED 0x80 0x9F) ≡ false
-  pub not_three_ee : (begins_three bytes 0xEE 0xEF 0x80 0xBF) ≡ false
-  pub not_four_f0 : (begins_four bytes 0xF0 0xF0 0x90 0xBF) ≡ false
-  pub not_four_f1 : (begins_four bytes 0xF1 0xF3 0x80 0xBF) ≡ false
-  pub not_four_f4 : (begins_four bytes 0xF4 0xF4 0x80 0x8F) ≡ false
-
--- the row of the table that the bytes begin with
-pub data Row (bytes : List ℕ) : Type 0 where
-  no_row : sequence_len bytes ≡ 0 → NoRow bytes → Row bytes
-  one : sequence_len bytes ≡ 1 → (byte_in bytes 0 0x00 0x7F) ≡ true → Row bytes
-  two : sequence_len bytes ≡ 2 → (begins_two bytes 0xC2 0xDF) ≡ true → Row bytes
-  three_e0 : sequence_len bytes ≡ 3 → (begins_three bytes 0xE0 0xE0 0xA0 0xBF) ≡ true → Row bytes
-  three_e1 : sequence_len bytes ≡ 3 → (begins_three bytes 0xE1 0xEC 0x80 0xBF) ≡ true → Row bytes
-  three_ed : sequence_len bytes ≡ 3 → (begins_three bytes 0xED 0xED 0x80 0x9F) ≡ true → Row bytes
-  three_ee : sequence_len bytes ≡ 3 → (begins_three bytes 0xEE 0xEF 0x80 0xBF) ≡ true → Row bytes
-  four_f0 : sequence_len bytes ≡ 4 → (begins_four bytes 0xF0 0xF0 0x90 0xBF) ≡ true → Row bytes
-  four_f1 : sequence_len bytes ≡ 4 → (begins_four bytes 0xF1 0xF3 0x80 0xBF) ≡ true → Row bytes
-  four_f4 : sequence_len bytes ≡ 4 → (begins_four bytes 0xF4 0xF4 0x80 0x8F) ≡ true → Row bytes
-
-module _ (bytes : List ℕ) where
-  at_four_f4 : (byte_in bytes 0 0x00 0x7F) ≡ false → (begins_two bytes 0xC2 0xDF) ≡ false → (begins_three bytes 0xE0 0xE0 0xA0 0xBF) ≡ false → (begins_three bytes 0xE1 0xEC 0x80 0xBF) ≡ false → (begins_three bytes 0xED 0xED 0x80 0x9F) ≡ false → (begins_three bytes 0xEE 0xEF 0x80 0xBF) ≡ false → (begins_four bytes 0xF0 0xF0 0x90 0xBF) ≡ false → (begins_four bytes 0xF1 0xF3 0x80 0xBF) ≡ false → (b : Bool) → (begins_four bytes 0xF4 0xF4 0x80 0x8F) ≡ b → Row bytes
-  unfolding sequence_len
-  at_four_f4 e0 e1 e2 e3 e4 e5 e6 e7 true e = four_f4 (rw (e0, e1, e2, e3, e4, e5, e6, e7, e) refl) e
-  at_four_f4 e0 e1 e2 e3 e4 e5 e6 e7 false e = no_row (rw (e0, e1, e2, e3, e4, e5, e6, e7, e) refl) (record { not_one = e0; not_two = e1; not_three_e0 = e2; not_three_e1 = e3; not_three_ed = e4; not_three_ee = e5; not_four_f0 = e6; not_four_f1 = e7; not_four_f4 = e })
-
-  at_four_f1 : (byte_in bytes 0 0x00 0x7F) ≡ false → (begins_two bytes 0xC2 0xDF) ≡ false → (begins_three bytes 0xE0 0xE0 0xA0 0xBF) ≡ false → (begins_three bytes 0xE1 0xEC 0x80 0xBF) ≡ false → (begins_three bytes 0xED 0xED 0x80 0x9F) ≡ false → (begins_three bytes 0xEE 0xEF 0x80 0xBF) ≡ false → (begins_four bytes 0xF0 0xF0 0x90 0xBF) ≡ false → (b : Bool) → (begins_four bytes 0xF1 0xF3 0x80 0xBF) ≡ b → Row bytes
-  unfolding sequence_len
-  at_four_f1 e0 e1 e2 e3 e4 e5 e6 true e = four_f1 (rw (e0, e1, e2, e3, e4, e5, e6, e) refl) e
-  at_four_f1 e0 e1 e2 e3 e4 e5 e6 false e = at_four_f4 e0 e1 e2 e3 e4 e5 e6 e (begins_four bytes 0xF4 0xF4 0x80 0x8F) refl
-
-  at_four_f0 : (byte_in bytes 0 0x00 0x7F) ≡ false → (begins_two bytes 0xC2 0xDF) ≡ false → (begins_three bytes 0xE0 0xE0 0xA0 0xBF) ≡ false → (begins_three bytes 0xE1 0xEC 0x80 0xBF) ≡ false → (begins_three bytes 0xED 0xED 0x80 0x9F) ≡ false → (begins_three bytes 0xEE 0xEF 0x80 0xBF) ≡ false → (b : Bool) → (begins_four bytes 0xF0 0xF0 0x90 0xBF) ≡ b → Row bytes
-  unfolding sequence_len
-  at_four_f0 e0 e1 e2 e3 e4 e5 true e = four_f0 (rw (e0, e1, e2, e3, e4, e5, e) refl) e
-  at_four_f0 e0 e1 e2 e3 e4 e5 false e = at_four_f1 e0 e1 e2 e3 e4 e5 e (begins_four bytes 0xF1 0xF3 0x80 0xBF) refl
-
-  at_three_ee : (byte_in bytes 0 0x00 0x7F) ≡ false → (begins_two bytes 0xC2 0xDF) ≡ false → (begins_three bytes 0xE0 0xE0 0xA0 0xBF) ≡ false → (begins_three bytes 0xE1 0xEC 0x80 0xBF) ≡ false → (begins_three bytes 0xED 0xED 0x80 0x9F) ≡ false → (b : Bool) → (begins_three bytes 0xEE 0xEF 0x80 0xBF) ≡ b → Row bytes
-  unfolding sequence_len
-  at_three_ee e0 e1 e2 e3 e4 true e = three_ee (rw (e0, e1, e2, e3, e4, e) refl) e
-  at_three_ee e0 e1 e2 e3 e4 false e = at_four_f0 e0 e1 e2 e3 e4 e (begins_four bytes 0xF0 0xF0 0x90 0xBF) refl
-
-  at_three_ed : (byte_in bytes 0 0x00 0x7F) ≡ false → (begins_two bytes 0xC2 0xDF) ≡ false → (begins_three bytes 0xE0 0xE0 0xA0 0xBF) ≡ false → (begins_three bytes 0xE1 0xEC 0x80 0xBF) ≡ false → (b : Bool) → (begins_three bytes 0xED 0xED 0x80 0x9F) ≡ b → Row bytes
-  unfolding sequence_len
-  at_three_ed e0 e1 e2 e3 true e = three_ed (rw (e0, e1, e2, e3, e) refl) e
-  at_three_ed e0 e1 e2 e3 false e = at_three_ee e0 e1 e2 e3 e (begins_three bytes 0xEE 0xEF 0x80 0xBF) refl
-
-  at_three_e1 : (byte_in bytes 0 0x00 0x7F) ≡ false → (begins_two bytes 0xC2 0xDF) ≡ false → (begins_three bytes 0xE0 0xE0 0xA0 0xBF) ≡ false → (b : Bool) → (begins_three bytes 0xE1 0xEC 0x80 0xBF) ≡ b → Row bytes
-  unfolding sequence_len
-  at_three_e1 e0 e1 e2 true e = three_e1 (rw (e0, e1, e2, e) refl) e
-  at_three_e1 e0 e1 e2 false e = at_three_ed e0 e1 e2 e (begins_three bytes 0xED 0xED 0x80 0x9F) refl
-
-  at_three_e0 : (byte_in bytes 0 0x00 0x7F) ≡ false → (begins_two bytes 0xC2 0xDF) ≡ false → (b : Bool) → (begins_three bytes 0xE0 0xE0 0xA0 0xBF) ≡ b → Row bytes
-  unfolding sequence_len
-  at_three_e0 e0 e1 true e = three_e0 (rw (e0, e1, e) refl) e
-  at_three_e0 e0 e1 false e = at_three_e1 e0 e1 e (begins_three bytes 0xE1 0xEC 0x80 0xBF) refl
-
-  at_two : (byte_in bytes 0 0x00 0x7F) ≡ false → (b : Bool) → (begins_two bytes 0xC2 0xDF) ≡ b → Row bytes
-  unfolding sequence_len
-  at_two e0 true e = two (rw (e0, e) refl) e
-  at_two e0 false e = at_three_e0 e0 e (begins_three bytes 0xE0 0xE0 0xA0 0xBF) refl
-
-  at_one : (b : Bool) → (byte_in bytes 0 0x00 0x7F) ≡ b → Row bytes
-  unfolding sequence_len
-  at_one true e = one (rw e refl) e
-  at_one false e = at_two e (begins_two bytes 0xC2 0xDF) refl
-
-  pub row_of : Row bytes
-  row_of = at_one (byte_in bytes 0 0x00 0x7F) refl
-
--- the bytes of the rows
+-- the first two bytes of a row
 pub both : (bytes : List ℕ) (low high second_low second_high : ℕ) → begins_pair bytes low high second_low second_high ≡ true → ByteAt bytes 0 low high × ByteAt bytes 1 second_low second_high
 both bytes low high second_low second_high e =
     let p = and_parts (byte_in bytes 0 low high) (byte_in bytes 1 second_low second_high) e in
     (byte_at bytes 0 low high p.0, byte_at bytes 1 second_low second_high p.1)
-
-pub record Three (bytes : List ℕ) (low high second_low second_high : ℕ) : Type 0 where
-  pub first : ByteAt bytes 0 low high
-  pub second : ByteAt bytes 1 second_low second_high
-  pub third : ByteAt bytes 2 0x80 0xBF
-
-pub three : (bytes : List ℕ) (low high second_low second_high : ℕ) → begins_three bytes low high second_low second_high ≡ true → Three bytes low high second_low second_high
-three bytes low high second_low second_high e =
-    let p = and_parts (byte_in bytes 0 low high) (byte_in bytes 1 second_low second_high && is_tail_at bytes 2) e in
-    let q = and_parts (byte_in bytes 1 second_low second_high) (is_tail_at bytes 2) p.1 in
-    record {
-      first = byte_at bytes 0 low high p.0;
-      second = byte_at bytes 1 second_low second_high q.0;
-      third = byte_at bytes 2 0x80 0xBF q.1;
-    }
-
-pub record Four (bytes : List ℕ) (low high second_low second_high : ℕ) : Type 0 where
-  pub three : Three bytes low high second_low second_high
-  pub fourth : ByteAt bytes 3 0x80 0xBF
-
-pub four : (bytes : List ℕ) (low high second_low second_high : ℕ) → begins_four bytes low high second_low second_high ≡ true → Four bytes low high second_low second_high
-four bytes low high second_low second_high e =
-    let p = and_parts (byte_in bytes 0 low high) (byte_in bytes 1 second_low second_high && (is_tail_at bytes 2 && is_tail_at bytes 3)) e in
-    let q = and_parts (byte_in bytes 1 second_low second_high) (is_tail_at bytes 2 && is_tail_at bytes 3) p.1 in
-    let r = and_parts (is_tail_at bytes 2) (is_tail_at bytes 3) q.1 in
-    record {
-      three = record {
-        first = byte_at bytes 0 low high p.0;
-        second = byte_at bytes 1 second_low second_high q.0;
-        third = byte_at bytes 2 0x80 0xBF r.0;
-      };
-      fourth = byte_at bytes 3 0x80 0xBF r.1;
-    }
 
 -- where a sequence is at the front
 pub sequence_unit : (mode : Mode) (bytes : List ℕ) → 0 < sequence_len bytes → IsUnitOf bytes (scalar_at mode (sequence_scalar bytes) (sequence_len bytes))

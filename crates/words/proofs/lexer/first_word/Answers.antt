@@ -1,7 +1,7 @@
 use Rattle.std.proofs.Common.{◌≡◌, ◌+◌, ◌-◌, ◌<◌, ℕ, List, Some, None, length, drop, take, sym, ap, ◌∙◌, subst, arith}
 use Rattle.std.proofs.lemmas.List.{take_rest, length-drop}
 use Rattle.words.specs.Word.{Word, spelling, word_at}
-use Rattle.words.specs.Lexer.{word_of, NoWordBefore, IsFirstWord}
+use Rattle.words.specs.Lexer.{sliced_word, NoWordBefore, IsFirstWord}
 use Rattle.words.proofs.Search.{no_word-skipped, no_word-next, skipped-within, word-within, first_word-found}
 use Rattle.words.proofs.lexer.first_word.Goals as goal
 
@@ -9,7 +9,7 @@ pub slice_bounds-result-count : goal.slice_bounds-result-count
 slice_bounds-result-count c =
     let s : List ℕ = c.args.bytes.now in
     let n : ℕ = c.loop-skipped.at + c.in-Some.skipped in
-    let w : Word = word_of c.in-Some-word_at.word in
+    let w : Word = sliced_word c.in-Some-word_at.word in
     let found : word_at (drop n s) ≡ Some w = ap word_at (sym (take_rest s n)) ∙ sym c.in-Some-word_at.ensures.value in
     omega (arith, word-within s n w found, ap length c.in-Some-word_at.ensures.spelled)
 
@@ -17,7 +17,7 @@ pub slice_bounds-result-start : goal.slice_bounds-result-start
 slice_bounds-result-start c =
     let s : List ℕ = c.args.bytes.now in
     let n : ℕ = c.loop-skipped.at + c.in-Some.skipped in
-    let w : Word = word_of c.in-Some-word_at.word in
+    let w : Word = sliced_word c.in-Some-word_at.word in
     let found : word_at (drop n s) ≡ Some w = ap word_at (sym (take_rest s n)) ∙ sym c.in-Some-word_at.ensures.value in
     omega (arith, word-within s n w found, ap length c.in-Some-word_at.ensures.spelled)
 
@@ -27,7 +27,7 @@ returns-in-Some-word_at-clause-found c =
     let at : ℕ = c.loop-skipped.at in
     let m : ℕ = c.in-Some.skipped in
     let i = c.loop-skipped.invariant in
-    let w : Word = word_of c.in-Some-word_at.word in
+    let w : Word = sliced_word c.in-Some-word_at.word in
     let found : word_at (drop (at + m) s) ≡ Some w = ap word_at (sym (take_rest s (at + m))) ∙ sym c.in-Some-word_at.ensures.value in
     let within : at + m < length s = skipped-within s at m i.within c.in-Some.ensures.0.high in
     let none : NoWordBefore s (at + m) = no_word-skipped s at _ m (take_rest s at) (omega arith) i.none_before c.in-Some.ensures.0.before in

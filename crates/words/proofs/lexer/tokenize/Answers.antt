@@ -1,5 +1,5 @@
 use Rattle.std.proofs.Common.{◌++◌, List, ℕ, false, map, sym, ap, ◌∙◌}
-use Rattle.words.specs.Lexer.{word_of}
+use Rattle.words.specs.Lexer.{sliced_word}
 use Rattle.words.specs.Tokens.{part_of, tokens_of}
 use Rattle.words.proofs.TokenLemmas.{parts_after, parts_after-start, tokens-turn, tokens-end}
 use Rattle.words.proofs.lexer.tokenize.Goals as goal
@@ -11,7 +11,7 @@ loop-first-init c =
 
 pub loop-first-preserved : goal.loop-first-preserved
 loop-first-preserved c =
-    tokens-turn c.args.strategy c.loop-first.after_word c.loop-first.rest.now c.in-Some.first.before.now (word_of c.in-Some.first.word) c.in-Some.first.after.now
+    tokens-turn c.args.strategy c.loop-first.after_word c.loop-first.rest.now c.in-Some.first.before.now (sliced_word c.in-Some.first.word) c.in-Some.first.after.now
     (map part_of c.loop-first.tokens.items) (map part_of c.push_clear_text.new.tokens.items) (map part_of c.push_word.new.tokens.items) _
     c.in-Some.ensures.found c.in_ok-push_clear_text.ensures c.in_ok-push_word.ensures c.loop-first.invariant
 
