@@ -8,10 +8,9 @@ use Rattle.std.proofs.lemmas.Grind.{common_steps}
 use Rattle.enc_drivers.specs.declared.Mode.{Mode}
 use Rattle.enc_drivers.specs.declared.code.Step.{Step}
 use Rattle.enc_drivers.specs.declared.code.Step.TheVariants as step
-use Rattle.enc_handles.specs.Latin.{read_len}
-use Rattle.enc_handles.specs.Reading.{Reading, left, after_reading}
+use Rattle.enc_handles.specs.Reading.{Reading, left, after_reading, read_len}
 use Rattle.enc_handles.proofs.LoopLemmas.{after_reading-add, left-after_reading}
-use Rattle.enc_drivers.specs.Driver.{StepsFront, Finds, ReadsOnto, Looks}
+use Rattle.enc_drivers.specs.Turn.{StepsFront, Finds, ReadsOnto, Looks}
 use Rattle.enc_drivers.specs.Resume.{Standing}
 use Rattle.enc_drivers.specs.Steps.{Steps, IsUndecided}
 use Rattle.enc_drivers.specs.Units.{Code, IsCode, AreBytes}

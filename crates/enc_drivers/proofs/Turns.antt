@@ -11,7 +11,7 @@ use Rattle.enc_drivers.specs.declared.Item.{Item}
 use Rattle.enc_drivers.specs.declared.Item.TheVariants as item
 use Rattle.enc_drivers.specs.declared.Mode.{Mode}
 use Rattle.enc_drivers.specs.declared.code.Step.TheVariants as step
-use Rattle.enc_drivers.specs.Driver.{Goes, Looks, ReadsOnto}
+use Rattle.enc_drivers.specs.Turn.{Goes, Looks, ReadsOnto}
 use Rattle.enc_drivers.specs.Resume.{Standing, item_in, text_in}
 use Rattle.enc_drivers.specs.Steps.{MayFollow}
 use Rattle.enc_drivers.specs.Units.{Code, IsCode, IsUnitOf, AreBytes, UnitAt, units}

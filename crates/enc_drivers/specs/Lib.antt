@@ -4,6 +4,7 @@ pub mod Lemmas
 pub mod Resume
 pub mod SingleByte
 pub mod Steps
+pub mod Turn
 pub mod Units
 pub mod Utf16
 pub mod Utf8

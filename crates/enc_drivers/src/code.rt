@@ -36,6 +36,6 @@ pub trait Code {
         ensures { Steps (unit self.now) mode front.now last result };
 
     /// A unit has one to four bytes and at most those that are left, the first four bytes decide it, its text has
-    /// at most three bytes for each of its bytes, and its scalars are scalars, two of them below U+0800.
+    /// at most three bytes for each of its bytes, and its scalars are scalars, both of two from U+0080 to U+07FF.
     ghost laws: { (code : Self) → IsCode (unit code) };
 }

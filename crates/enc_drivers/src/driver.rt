@@ -30,7 +30,8 @@ pub struct GeneralDriver<C: Code> {
 
 impl<C: Code> GeneralDriver<C> {
     ghost use Rattle.enc_drivers.specs.declared.Mode.{Mode};
-    ghost use Rattle.enc_drivers.specs.Driver.{standing, unit_of, StepsFront, Looks, Goes, Ends, EndsOrGoesOn, malformed_if_ends};
+    ghost use Rattle.enc_drivers.specs.Driver.{standing, unit_of};
+    ghost use Rattle.enc_drivers.specs.Turn.{StepsFront, Looks, Goes, Ends, EndsOrGoesOn, malformed_if_ends};
     ghost use Rattle.enc_drivers.specs.Resume.{ResumesWriting, MayHold, malformed_of};
 
     /// A driver at the start of a stream.

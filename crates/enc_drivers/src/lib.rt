@@ -1,5 +1,5 @@
-//! The units that the Encoding Standard's decoders read: what stands at the front of bytes in a code.
-//! The definitions are in `specs/`: `units` of a code, and their `text`.
+//! Codes of the Encoding Standard's decoders: the units that they read, and a driver that decodes a stream in pieces.
+//! The definitions are in `specs/`: `units` of a code, their `text`, and the resume equation.
 #![tactic(auto)]
 
 pub mod code;

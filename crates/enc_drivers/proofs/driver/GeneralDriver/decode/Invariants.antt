@@ -2,7 +2,8 @@ use Rattle.std.proofs.Common.{◌≡◌, ◌+◌, [], length}
 use Rattle.enc_handles.specs.ByteSource.{reading}
 use Rattle.enc_handles.specs.Destination.{writing}
 use Rattle.enc_handles.specs.Reading.{left}
-use Rattle.enc_drivers.specs.Driver.{Goes, standing, unit_of}
+use Rattle.enc_drivers.specs.Driver.{standing, unit_of}
+use Rattle.enc_drivers.specs.Turn.{Goes}
 use Rattle.enc_drivers.specs.Front.{front_bytes}
 use Rattle.enc_drivers.proofs.driver.GeneralDriver.decode.Given as goal
 

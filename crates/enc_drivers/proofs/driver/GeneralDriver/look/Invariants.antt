@@ -1,8 +1,7 @@
 use Rattle.std.proofs.Common.{length}
 use Rattle.enc_handles.specs.ByteSource.{reading}
-use Rattle.enc_handles.specs.Latin.{read_len}
-use Rattle.enc_handles.specs.Reading.{left}
-use Rattle.enc_drivers.specs.Driver.{ReadsOnto}
+use Rattle.enc_handles.specs.Reading.{left, read_len}
+use Rattle.enc_drivers.specs.Turn.{ReadsOnto}
 use Rattle.enc_drivers.specs.Front.{front_bytes}
 use Rattle.enc_drivers.proofs.driver.GeneralDriver.look.Given as goal
 
