@@ -1,5 +1,5 @@
 -- How much text a decode call writes.
-use Rattle.std.proofs.Common.{◌≡◌, ℕ, zero, suc, ◌+◌, ◌-◌, ◌*◌, ◌<◌, ◌≤◌, Bool, List, [], ◌∷◌, ◌++◌, length, take, drop, refl, ap, sym, ◌∙◌, arith, append_assoc, false, length-append, length-drop}
+use Rattle.std.proofs.Common.{◌≡◌, ℕ, zero, suc, ◌+◌, ◌-◌, ◌*◌, ◌<◌, ◌≤◌, Bool, List, [], ◌∷◌, ◌++◌, length, take, drop, refl, ap, sym, ◌∙◌, arith, append_assoc, length-append, length-drop, true}
 use Rattle.std.specs.Prelude.{encode_utf8}
 use Rattle.std.specs.List.{All, sum_by}
 use Rattle.std.proofs.Math.Seq.{drop-append_seam, take-append_seam}
@@ -9,9 +9,9 @@ use lib.Utf8.{encode}
 use Rattle.enc_drivers.specs.declared.Item.{Item}
 use Rattle.enc_drivers.specs.declared.Item.TheVariants as item
 use Rattle.enc_drivers.specs.declared.Mode.{Mode}
-use Rattle.enc_drivers.specs.Resume.{Standing, Resumes, IsShort, item_in, text_in}
+use Rattle.enc_drivers.specs.Resume.{Standing, Resumes, item_in, text_in}
 use Rattle.enc_drivers.specs.Steps.{MayFollow}
-use Rattle.enc_drivers.specs.Units.{Code, IsCode, AreBytes, item_text, text, units}
+use Rattle.enc_drivers.specs.Units.{Code, IsCode, AreBytes, item_text, text, units, IsShort}
 use Rattle.enc_drivers.proofs.UnitLemmas.{units_nil, units_some, units_cover_law, text-cons, text_nil}
 
 -- in UTF-8 the text of an item is that of its form
@@ -82,15 +82,18 @@ short_call_law unit code last a b src n decoded malformed are are_src within cal
     omega (arith, length-append a.held (src ++ []), length-append src [], length-append b.held (drop n src ++ []), length-append (drop n src) [], length-drop n src)
 
 -- a call, and one on the rest of its piece and the next piece
-pub joined_calls_law : (unit : Code) (last : Bool) (a b c : Standing) (src next : List ℕ) (n k : ℕ) (one wrong two wrong_too : List (Item × ℕ))
-    → Resumes unit false a b src n one wrong → Resumes unit last b c (drop n src ++ next) k two wrong_too → AreBytes next
+pub joined_calls_law : (unit : Code) (start last : Bool) (a b c : Standing) (src next : List ℕ) (n k : ℕ) (one wrong two wrong_too : List (Item × ℕ))
+    → Resumes unit start a b src n one wrong → Resumes unit last b c (drop n src ++ next) k two wrong_too → AreBytes next → (start ≡ true → (last ≡ true) × (next ≡ []))
     → (more : List ℕ) → MayFollow last more
     → units unit a.mode (a.held ++ (src ++ (next ++ more)))
     ≡ (one ++ wrong) ++ ((two ++ wrong_too) ++ units unit c.mode (c.held ++ (drop k (drop n src ++ next) ++ more)))
-joined_calls_law unit last a b c src next n k one wrong two wrong_too first second are more follows =
+joined_calls_law unit start last a b c src next n k one wrong two wrong_too first second are ends more follows =
     let rest = drop n src in
     let end = units unit c.mode (c.held ++ (drop k (rest ++ next) ++ more)) in
-    let later : MayFollow false (next ++ more) = record { bytes = All-append (λ x. x < 256) next more are follows.bytes; none = λ e. cc e } in
+    let later : MayFollow start (next ++ more) = record {
+      bytes = All-append (λ x. x < 256) next more are follows.bytes;
+      none = λ e. let both = ends e in ap (λ (l : List ℕ). l ++ more) both.1 ∙ follows.none both.0;
+    } in
     first.equation (next ++ more) later
     ∙ (ap (λ (l : List (Item × ℕ)). one ++ (wrong ++ l))
     (ap (λ (l : List ℕ). units unit b.mode (b.held ++ l)) (sym (append_assoc rest next more)) ∙ second.equation more follows ∙ sym (append_assoc two wrong_too end))

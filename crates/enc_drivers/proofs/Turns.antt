@@ -49,6 +49,7 @@ goes_none unit form last mode h g r r' w w' n reads same = record {
     held = sym reads.front;
   };
   text = same ∙ writing_none w;
+  fits = omega arith;
 }
 
 -- the same of a front and a source that equal these
@@ -129,11 +130,12 @@ module _ (unit : Code) (laws : IsCode unit) (form : ℕ → List ℕ) (last : Bo
       held = gone_rest rest is;
     };
     text = writing_none w;
+    fits = omega arith;
   }
 
-  pub goes_written : (rest : List ℕ) (w w' : Writing) → ¬ (i ≡ item.Malformed) → rest ≡ drop len f → w' ≡ after_writing w (item_in form i)
+  pub goes_written : (rest : List ℕ) (w w' : Writing) → ¬ (i ≡ item.Malformed) → rest ≡ drop len f → w' ≡ after_writing w (item_in form i) → length (item_in form i) ≤ w.free
       → Goes unit form last (record { held = h; mode = mode }) (record { held = rest; mode = next }) r r' w w' []
-  goes_written rest w w' right is written = record {
+  goes_written rest w w' right is written fits = record {
     count = looks.count;
     decoded = (i, len) ∷ [];
     within = looks.reads.within;
@@ -146,6 +148,7 @@ module _ (unit : Code) (laws : IsCode unit) (form : ℕ → List ℕ) (last : Bo
       held = gone_rest rest is;
     };
     text = written ∙ ap (after_writing w) (sym (append-nil (item_in form i)));
+    fits = rw (append-nil (item_in form i)) fits;
   }
 
 -- two parts of a call in a row
@@ -184,6 +187,10 @@ goes_more unit form last a b c r r' r'' w w' w'' malformed one two =
       text = two.text ∙ (ap (λ v. after_writing v (text_in form two.decoded)) one.text
           ∙ (after_writing-append w (text_in form one.decoded) (text_in form two.decoded)
           ∙ ap (after_writing w) (sym (flat_map-append (λ (u : Item × ℕ). item_in form u.0) one.decoded two.decoded))));
+      fits =
+          let free : w'.free ≡ w.free - length (text_in form one.decoded) = ap (λ (v : Writing). v.free) one.text in
+          rw (flat_map-append (λ (u : Item × ℕ). item_in form u.0) one.decoded two.decoded, length-append (text_in form one.decoded) (text_in form two.decoded))
+          (omega (arith, one.fits, two.fits, free));
     }
 
 -- nothing was done yet

@@ -1,5 +1,5 @@
 -- The resume equation: what a decode call has written and what is still to come are the units of all bytes.
-use Rattle.std.specs.Prelude.{◌≡◌, ℕ, ◌*◌, ◌≤◌, ◌⊎◌, Bool, true, List, [], ◌∷◌, ◌++◌, length, take, drop}
+use Rattle.std.specs.Prelude.{◌≡◌, ℕ, ◌≤◌, ◌⊎◌, Bool, true, List, [], ◌∷◌, ◌++◌, length, take, drop}
 use Rattle.std.specs.List.{All, flat_map}
 use Rattle.enc_handles.specs.declared.results.DecoderResult.{DecoderResult}
 use Rattle.enc_handles.specs.declared.results.DecoderResult.TheVariants as result
@@ -7,7 +7,7 @@ use Rattle.enc_drivers.specs.declared.Item.{Item}
 use Rattle.enc_drivers.specs.declared.Item.TheVariants as item
 use Rattle.enc_drivers.specs.declared.Mode.{Mode}
 use Rattle.enc_drivers.specs.Steps.{MayFollow, IsUndecided}
-use Rattle.enc_drivers.specs.Units.{Code, units, item_text}
+use Rattle.enc_drivers.specs.Units.{Code, units}
 
 -- what a driver keeps between two calls: bytes that it has read and not yet decoded, and the mode they are in
 pub record Standing : Type 0 where
@@ -52,7 +52,3 @@ pub record MayHold (unit : Code) (last : Bool) (standing : Standing) : Type 0 wh
   pub few : length standing.held ≤ 3
   pub end : last ≡ true → standing.held ≡ []
   pub undecided : (standing.held ≡ []) ⊎ IsUndecided unit standing.mode standing.held
-
--- the text of a unit has at most three bytes for each of its bytes
-abbrev pub IsShort : Item × ℕ → Type 0
-IsShort u = length (item_text u.0) ≤ 3 * u.1

@@ -50,6 +50,7 @@ pub record Goes (unit : Code) (form : ℕ → List ℕ) (last : Bool) (before af
   pub read : new ≡ after_reading old count
   pub resumes : Resumes unit last before after (left old) count decoded malformed
   pub text : to ≡ after_writing from (text_in form decoded)
+  pub fits : length (text_in form decoded) ≤ from.free
 
 -- how a decode call ends: the source is empty and what is held may be; there is too little room; or how many bytes are held
 -- behind the malformed unit
@@ -58,11 +59,12 @@ Ends unit last after reading free room result.InputEmpty = (left reading ≡ [])
 Ends unit last after reading free room result.OutputFull = free < room
 Ends unit last after reading free room (result.Malformed n k) = k ≡ length after.held
 
--- a turn of a decode call ends it, or has decoded a unit
+-- the malformed unit that a turn of a decode call tells, if it ends the call
 abbrev pub malformed_if_ends : Option DecoderResult → List (Item × ℕ)
 malformed_if_ends (Some r) = malformed_of r
 malformed_if_ends None = []
 
+-- a turn of a decode call ends it, or leaves fewer bytes than there were
 abbrev pub EndsOrGoesOn : Code → Bool → Standing → Standing → Reading → Reading → ℕ → ℕ → Option DecoderResult → Type 0
 EndsOrGoesOn unit last before after old new free room (Some r) = Ends unit last after new free room r
 EndsOrGoesOn unit last before after old new free room None =

@@ -57,7 +57,7 @@ AreBytes bytes = All (λ b. b < 256) bytes
 abbrev pub IsOfTwoBytes : ℕ → Type 0
 IsOfTwoBytes scalar = (0x80 ≤ scalar) × (scalar < 0x800)
 
--- the item's scalars are scalars, and both of a pair have two bytes, as in the four pairs of Big5 (Encoding Standard, section 12.1.1)
+-- the item's scalars are scalars, and both of a pair have two bytes, as in the four pairs of Big5 (Encoding Standard, section 11.1.1)
 abbrev pub HasScalars : Item → Type 0
 HasScalars (One scalar) = IsScalar scalar
 HasScalars (Two first second) = IsOfTwoBytes first × IsOfTwoBytes second
@@ -76,3 +76,7 @@ pub record IsUnitOf (rest : List ℕ) (u : UnitAt) : Type 0 where
 pub record IsCode (unit : Code) : Type 0 where
   pub each : (mode : Mode) (rest : List ℕ) → AreBytes rest → 0 < length rest → IsUnitOf rest (unit mode rest)
   pub first_four : (mode : Mode) (a b : List ℕ) → AreBytes a → AreBytes b → 4 ≤ length a → 4 ≤ length b → take 4 a ≡ take 4 b → unit mode a ≡ unit mode b
+
+-- the text of a unit has at most three bytes for each of its bytes
+abbrev pub IsShort : Item × ℕ → Type 0
+IsShort u = length (item_text u.0) ≤ 3 * u.1

@@ -30,6 +30,6 @@ utf16_unit big mode (a ∷ b ∷ c ∷ d ∷ rest) =
 abbrev pub unit_bytes : Bool → ℕ → List ℕ
 unit_bytes big unit = if big then unit / 0x100 ∷ unit % 0x100 ∷ [] else unit % 0x100 ∷ unit / 0x100 ∷ []
 
--- the bytes of a scalar in UTF-16 (Infra Standard, section 4.6, and the Unicode Standard, section 3.9)
+-- the bytes of a scalar in UTF-16 (the Unicode Standard, sections 3.9 and 3.10)
 unfoldable pub scalar_bytes : Bool → ℕ → List ℕ
 scalar_bytes big scalar = flat_map (unit_bytes big) (encode_utf16 scalar)

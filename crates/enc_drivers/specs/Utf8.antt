@@ -23,7 +23,8 @@ two_of_four bytes =
     || begins_pair bytes 0xF1 0xF3 0x80 0xBF
     || begins_pair bytes 0xF4 0xF4 0x80 0x8F
 
--- where no sequence stands at the front: how many bytes at the front begin one, and at least one
+-- where no sequence stands at the front: how many bytes at the front begin one, and at least one (Encoding Standard, section 8.1.1; the Unicode
+-- Standard, section 3.9, substitution of maximal subparts)
 unfoldable pub malformed_len : List ℕ → ℕ
 malformed_len bytes =
     if two_of_four bytes && is_tail_at bytes 2 then 3

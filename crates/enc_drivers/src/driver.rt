@@ -62,6 +62,7 @@ impl<C: Code> GeneralDriver<C> {
             (take result.2 dst.new) (malformed_of result.0) }
         ensures read { result.1 ≤ length src.now }
         ensures written { result.2 ≤ length dst.new }
+        ensures len { length dst.new ≡ length dst.old }
         ensures few { length (standing self.new).held ≤ 3 }
         ensures input_empty { result.0 ≡ DecoderResult.InputEmpty → (result.1 ≡ length src.now) × MayHold (unit_of self.old) last (standing self.new) }
         ensures output_full { result.0 ≡ DecoderResult.OutputFull → length dst.new - result.2 < 4 }
@@ -85,6 +86,7 @@ impl<C: Code> GeneralDriver<C> {
             (take result.2 dst.new) (malformed_of result.0) }
         ensures read { result.1 ≤ length src.now }
         ensures written { result.2 ≤ length dst.new }
+        ensures len { length dst.new ≡ length dst.old }
         ensures few { length (standing self.new).held ≤ 3 }
         ensures input_empty { result.0 ≡ DecoderResult.InputEmpty → (result.1 ≡ length src.now) × MayHold (unit_of self.old) last (standing self.new) }
         ensures output_full { result.0 ≡ DecoderResult.OutputFull → length dst.new - result.2 < 2 }
@@ -193,6 +195,7 @@ fn write_item<S: UnitSlice>(dest: &mut DestinationOver<S>, item: Item) -> bool
     requires { HasScalars item }
     ensures room { result ≡ false → (writing dest.new).free < S.astral_room }
     ensures written { result ≡ true → writing dest.new ≡ after_writing (writing dest.old) (item_in S.encode item) }
+    ensures fits { result ≡ true → length (item_in S.encode item) ≤ (writing dest.old).free }
     ensures full { result ≡ false → writing dest.new ≡ writing dest.old }
 {
     let Space::Available(room) = dest.check_space_astral() else {

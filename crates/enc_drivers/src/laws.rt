@@ -5,9 +5,9 @@ ghost use Rattle.std.specs.Char.{IsScalar};
 ghost use Rattle.std.specs.List.{All, sum_by};
 ghost use Rattle.enc_drivers.specs.declared.Item.{Item};
 ghost use Rattle.enc_drivers.specs.declared.Mode.{Mode};
-ghost use Rattle.enc_drivers.specs.Resume.{Standing, Resumes, IsShort, text_in};
+ghost use Rattle.enc_drivers.specs.Resume.{Standing, Resumes, text_in};
 ghost use Rattle.enc_drivers.specs.Steps.{MayFollow};
-ghost use Rattle.enc_drivers.specs.Units.{Code, IsCode, AreBytes, units, text, scalar_at};
+ghost use Rattle.enc_drivers.specs.Units.{Code, IsCode, AreBytes, units, text, scalar_at, IsShort};
 ghost use Rattle.enc_drivers.specs.Utf8.{utf8_unit, malformed_len, IsLongestBegun};
 ghost use Rattle.enc_handles.specs.Utf8.{sequence_len};
 ghost use Rattle.enc_drivers.specs.Utf16.{utf16_unit, scalar_bytes};
@@ -101,12 +101,13 @@ pub fn short_call()
 {}
 
 /// A call of a driver, and one on what it left of its piece and the next piece: what both have decoded, with the
-/// malformed units that they met, and what is still to come are the units of all bytes. So a cut changes nothing.
+/// malformed units that they met, and what is still to come are the units of all bytes. So a cut changes nothing. Where the
+/// first piece is the last one, so is the second, and it has no further bytes.
 pub fn joined_calls()
-    ensures { (unit : Code) (last : Bool) (start middle end : Standing) (src next : List ℕ) (read read_then : ℕ) (decoded malformed decoded_then malformed_then : List (Item × ℕ)) →
-        Resumes unit false start middle src read decoded malformed →
+    ensures { (unit : Code) (first last : Bool) (start middle end : Standing) (src next : List ℕ) (read read_then : ℕ) (decoded malformed decoded_then malformed_then : List (Item × ℕ)) →
+        Resumes unit first start middle src read decoded malformed →
         Resumes unit last middle end (drop read src ++ next) read_then decoded_then malformed_then →
-        AreBytes next → (more : List ℕ) → MayFollow last more →
+        AreBytes next → (first ≡ true → (last ≡ true) × (next ≡ [])) → (more : List ℕ) → MayFollow last more →
         units unit start.mode (start.held ++ (src ++ (next ++ more)))
         ≡ (decoded ++ malformed) ++ ((decoded_then ++ malformed_then) ++ units unit end.mode (end.held ++ (drop read_then (drop read src ++ next) ++ more))) }
 {}

@@ -4,7 +4,7 @@ use Rattle.std.specs.List.{flat_map, list_any}
 use Rattle.std.specs.Char.{digit_value, is_digit}
 use Rattle.qp.specs.Text.{trimmed}
 
--- what is read at one place of a line: an octet that stands for itself (RFC 2045 6.7, rule 2), `=` and the two octets after it (rule 1), `=` and the one octet that the line still has (the NOTE on illegal substrings, case 3), or `=` alone at the line's end (rule 5)
+-- what is read at one place of a line: an octet that stands for itself (RFC 2045 6.7, rule 2), `=` and the two octets after it (rule 1), `=` and the one octet that the line still has (the NOTE on illegal substrings, case 3, at the end of each line here), or `=` alone at the line's end (rule 5)
 pub data Part : Type 0 where
   literal : ℕ → Part
   escape : ℕ → ℕ → Part
@@ -22,7 +22,7 @@ parts (b ∷ u ∷ v ∷ rest) = if b == 61 then escape u v ∷ parts rest else 
 abbrev pub hex_octet : ℕ → ℕ → ℕ
 hex_octet u v = digit_value u * 16 + digit_value v
 
--- `=` and two octets: the octet that they say, or where one is no hexadecimal digit all three as they stand (RFC 2045 6.7, the NOTE on illegal substrings, case 2)
+-- `=` and two octets: the octet that they say, or where one is no hexadecimal digit all three as they stand (RFC 2045 6.7; the NOTE on illegal substrings, case 2, keeps `=` and the octet behind it and reads on there)
 abbrev pub escape_value : ℕ → ℕ → List ℕ
 escape_value u v = if is_digit u 16 && is_digit v 16 then hex_octet u v ∷ [] else 61 ∷ u ∷ v ∷ []
 

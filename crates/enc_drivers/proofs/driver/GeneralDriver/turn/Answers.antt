@@ -42,7 +42,7 @@ returns-then-write_item g c =
     let rest : front_bytes c.behind-rest.result ≡ drop c.in-Unit.length (front_bytes c.look.new.front) =
     c.behind-rest.ensures ∙ ap (λ k. drop k (front_bytes c.look.new.front)) c.from.ensures in
     record {
-      goes = goes_written _ laws g.S.UnitSlice.encode _ _ _ _ _ _ _ _ _ c.requires c.in-Unit.ensures _ _ _ c.in_default-item.not-Malformed rest (c.if-write_item.ensures.written refl);
+      goes = goes_written _ laws g.S.UnitSlice.encode _ _ _ _ _ _ _ _ _ c.requires c.in-Unit.ensures _ _ _ c.in_default-item.not-Malformed rest (c.if-write_item.ensures.written refl) (c.if-write_item.ensures.fits refl);
       ends = shorter _ laws g.S.UnitSlice.encode _ _ _ _ _ _ _ _ _ c.requires c.in-Unit.ensures _ rest;
       same_code = refl;
     }
