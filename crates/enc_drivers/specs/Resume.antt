@@ -1,4 +1,5 @@
--- The resume equation: what a decode call has written and what is still to come are the units of all bytes.
+-- The resume equation: what a decode call has written and what is still to come are the units of all bytes. The standard's
+-- decoders take a stream byte by byte and keep their state (Encoding Standard, section 4.1); this says the same of any pieces.
 use Rattle.std.specs.Prelude.{◌≡◌, ℕ, ◌≤◌, ◌⊎◌, Bool, true, List, [], ◌∷◌, ◌++◌, length, take, drop}
 use Rattle.std.specs.List.{All, flat_map}
 use Rattle.enc_handles.specs.declared.results.DecoderResult.{DecoderResult}
@@ -14,7 +15,7 @@ pub record Standing : Type 0 where
   pub held : List ℕ
   pub mode : Mode
 
--- an item in a form that writes one scalar as `form` says, U+FFFD for what is malformed
+-- an item in a form that writes one scalar as `form` says, U+FFFD for what is malformed (Encoding Standard, section 4.1, error mode "replacement")
 abbrev pub item_in : (ℕ → List ℕ) → Item → List ℕ
 item_in form (item.One scalar) = form scalar
 item_in form (item.Two first second) = form first ++ form second
