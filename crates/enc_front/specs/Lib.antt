@@ -1,5 +1,11 @@
+pub mod Calls
 pub mod Charsets
+pub mod Decoding
 pub mod Indexes
+pub mod LifeCycle
 pub mod Marks
 pub mod Names
+pub mod Standing
+pub mod Start
 pub mod Units
+pub mod Variant

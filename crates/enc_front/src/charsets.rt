@@ -1,12 +1,13 @@
 //! Charsets, which mail words name.
 
-ghost use Rattle.std.specs.Prelude.{◌≡◌, IfOk, IfSome, IsTrue};
+ghost use Rattle.std.specs.Prelude.{◌≡◌, ◌+◌, ◌*◌, IfOk, IfSome, IsTrue, vec_len};
 ghost use Rattle.std.specs.Option.{option_map};
 ghost use Rattle.std.specs.String.{string_bytes};
 ghost use Rattle.enc_front.specs.Indexes.{indexes_of, known};
 ghost use Rattle.enc_front.specs.Charsets.{encoding_of, charset, ascii_text, marked_text};
 
 use crate::indexes::Tables;
+use crate::life_cycle::Decoder;
 use crate::names::Encoding;
 use crate::reader;
 use std::alloc::{AllocError, Global};
@@ -38,9 +39,14 @@ impl Charset {
         requires { IsTrue (known (encoding_of self) (indexes_of tables.now)) }
         ensures { IfOk result (λ text. string_bytes text ≡ marked_text (encoding_of self) (indexes_of tables.now) bytes.now) }
     {
-        let _ = tables;
-        let (encoding, length) = Encoding::for_bom(bytes).unwrap_or((self.encoding, 0));
-        reader::decode(alloc, encoding, &bytes[length..])
+        let mut text = text_room(alloc, bytes.len())?;
+        let mut decoder = Decoder::new(self.encoding, tables);
+        let (_, _, written, _) = decoder.decode_to_utf8(bytes, text.as_mut_slice(), true);
+        text.truncate(written);
+        match String::from_utf8(text) {
+            Ok(text) => Ok(text),
+            Err(_) => unreachable!(),
+        }
     }
 
     /// The text of `bytes` in ASCII, with U+FFFD for each byte above 7F. Fails only for want of memory.
@@ -49,4 +55,15 @@ impl Charset {
     {
         reader::decode_ascii(alloc, bytes)
     }
+}
+
+/// Room for the text of so many bytes: three bytes for each, and four that are free at the end.
+fn text_room(alloc: Global, count: usize) -> Result<Vec<u8>, AllocError>
+    ensures { IfOk result (λ text. vec_len text ≡ 3 * count + 4) }
+{
+    let room = count
+        .checked_mul(3)
+        .and_then(|room| room.checked_add(4))
+        .ok_or(AllocError)?;
+    vec![in alloc; 0u8; room]
 }

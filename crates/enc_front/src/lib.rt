@@ -3,12 +3,18 @@
 
 mod charsets;
 mod indexes;
+mod life_cycle;
 mod names;
 mod reader;
+mod start;
+mod variant;
 
 pub use charsets::Charset;
 pub use indexes::{IndexKind, Tables};
+pub use life_cycle::Decoder;
 pub use names::{Encoding, SingleName};
 
+#[cfg(test)]
+mod life_cycle_tests;
 #[cfg(test)]
 mod tests;

@@ -222,7 +222,7 @@ fn knows_the_built_in_encodings(rt: HostRuntime) {
 }
 
 /// A charset, bytes, and their text.
-const TEXTS: [(&str, &[u8], &str); 37] = [
+pub(crate) const TEXTS: [(&str, &[u8], &str); 37] = [
     ("utf-8", b"", ""),
     ("utf-8", b"\xc3\xa9", "\u{e9}"),
     ("iso-8859-1", b"\xe9", "\u{e9}"),

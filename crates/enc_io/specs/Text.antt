@@ -1,4 +1,4 @@
--- The text of a stream of bytes: WHATWG Encoding Standard, section 4.1, `decode`.
+-- The text of a stream of bytes: WHATWG Encoding Standard, section 6.1, "decode".
 use Rattle.std.specs.Prelude.{ℕ, List}
 
 -- the text of the bytes that a source gives. Bytes without a byte order mark, under the default options, are their own text; encodings, marks and options widen this

@@ -1,0 +1,257 @@
+-- Calls of a driver and of a decoder, over plain values.
+use Rattle.std.proofs.Common.{◌≡◌, ℕ, zero, suc, ◌+◌, ◌-◌, ◌*◌, ◌<◌, ◌≤◌, Bool, true, false, List, [], ◌∷◌, ◌++◌, length, take, drop, refl, ap, sym, ◌∙◌, arith, inl, inr, append_assoc, length-append, length-drop, drop_at, le_refl}
+use Rattle.std.specs.Prelude.{encode_utf8}
+use Rattle.std.specs.List.{All, sum_by}
+use Rattle.std.proofs.Math.Seq.{drop-append_seam, take-append_seam, take-add}
+use Rattle.std.proofs.lemmas.List.{append-nil, length-take-le, drop-drop, take-append-le}
+use Rattle.std.proofs.lemmas.Slice.{take-put_mid_below}
+use Rattle.std.proofs.lemmas.Grind.{flat_map-append}
+use Rattle.std.proofs.lemmas.List.Elements.{All-nil, All-cons, All-head, All-tail, All-append, All-take, All-drop}
+use Rattle.std.proofs.lemmas.List.Sums.{sum_by-cons}
+use borrow.Rule.Slice.PartMut.{put_mid, post_of}
+use Rattle.enc_handles.specs.declared.results.DecoderResult.{DecoderResult}
+use Rattle.enc_handles.specs.declared.results.DecoderResult.TheVariants as result
+use Rattle.enc_drivers.specs.declared.Item.{Item}
+use Rattle.enc_drivers.specs.declared.Item.TheVariants as item
+use Rattle.enc_drivers.specs.declared.Mode.{Mode}
+use Rattle.enc_drivers.specs.declared.Mode.TheVariants.{Plain}
+use Rattle.enc_drivers.specs.Lemmas.SingleByteLaw.{windows_1252_law, user_defined_law}
+use Rattle.enc_drivers.specs.Lemmas.Utf16Law.{utf16_law}
+use Rattle.enc_drivers.specs.Lemmas.Utf8Law.{utf8_law}
+use Rattle.enc_drivers.specs.Resume.{Standing, Resumes, ResumesWriting, item_in, text_in, malformed_of}
+use Rattle.enc_drivers.specs.Units.{Code, IsCode, AreBytes, units}
+use Rattle.enc_drivers.proofs.CallLemmas.{short_call_law, text_in_utf_8}
+use Rattle.enc_drivers.proofs.UnitLemmas.{units_nil, units_some}
+use Rattle.enc_front.specs.declared.names.Encoding.{Encoding}
+use Rattle.enc_front.specs.declared.variant.VariantDecoder.{VariantDecoder}
+use Rattle.enc_front.specs.declared.variant.VariantDecoder.TheVariants.{Utf8, Utf16Be, Utf16Le, Windows1252, UserDefined}
+use Rattle.enc_front.specs.declared.start.Start.{Start}
+use Rattle.enc_front.specs.declared.start.Start.TheVariants.{Over}
+use Rattle.enc_front.specs.Calls.{with_more}
+use Rattle.enc_front.specs.Decoding.{DecoderResumes, DecoderResumesWriting, DecoderMayHold}
+use Rattle.enc_front.specs.Indexes.{Indexes}
+use Rattle.enc_front.specs.LifeCycle.{held_at, mode_at}
+use Rattle.enc_front.specs.Start.{marks_at}
+use Rattle.enc_front.specs.Standing.{DecoderStanding, no_mark, past_mark, to_come, encoding_to_come}
+use Rattle.enc_front.specs.Units.{unit}
+use Rattle.enc_front.specs.Variant.{encoding_in}
+
+-- the units of a driver's encoding keep what a code keeps
+pub unit_law : (driver : VariantDecoder) → IsCode (unit (encoding_in driver) [])
+unit_law (Utf8 driver) = utf8_law
+unit_law (Utf16Be driver) = utf16_law true
+unit_law (Utf16Le driver) = utf16_law false
+unit_law (Windows1252 driver) = windows_1252_law
+unit_law (UserDefined driver) = user_defined_law
+
+-- a unit has some byte
+abbrev HasByte : Item × ℕ → Type 0
+HasByte u = 1 ≤ u.1
+
+module _ (code : Code) (law : IsCode code) where
+  some_within : (n : ℕ) (mode : Mode) (bytes : List ℕ) → AreBytes bytes → length bytes ≤ n → All HasByte (units code mode bytes)
+  some_within n mode [] are h = rw (units_nil code mode) (All-nil HasByte)
+  some_within zero mode (x ∷ bytes) are h = absurd (omega arith)
+  some_within (suc n) mode (x ∷ bytes) are h =
+      let u = code mode (x ∷ bytes) in
+      let each = law.each mode (x ∷ bytes) are (omega arith) in
+      let gone : length (drop u.len (x ∷ bytes)) ≡ length (x ∷ bytes) - u.len = length-drop u.len (x ∷ bytes) in
+      let rest = some_within n u.next (drop u.len (x ∷ bytes)) (All-drop (λ b. b < 256) u.len (x ∷ bytes) are) (omega (arith, each.some)) in
+      rw (units_some code law mode (x ∷ bytes) are (omega arith))
+      (All-cons HasByte (u.item, u.len) (units code u.next (drop u.len (x ∷ bytes))) each.some rest)
+
+sum_some : (us : List (Item × ℕ)) → All HasByte us → length us ≤ sum_by (λ (u : Item × ℕ). u.1) us
+sum_some [] each = omega arith
+sum_some (u ∷ us) each =
+    let here : 1 ≤ u.1 = All-head HasByte u us each in
+    let rest = sum_some us (All-tail HasByte u us each) in
+    rw (sum_by-cons (λ (v : Item × ℕ). v.1) u us) (omega arith)
+
+module _ (code : Code) (last : Bool) (a b : Standing) (src : List ℕ) (n : ℕ) (are : AreBytes a.held) (are_src : AreBytes src) (within : n ≤ length src) where
+  -- what a driver holds are bytes
+  pub bytes_held : (decoded malformed : List (Item × ℕ)) → Resumes code last a b src n decoded malformed → AreBytes b.held
+  bytes_held decoded malformed call =
+      let used : AreBytes (a.held ++ take n src) = All-append (λ x. x < 256) a.held (take n src) are (All-take (λ x. x < 256) n src are_src) in
+      rw (← drop-append_seam call.gone b.held) (All-drop (λ x. x < 256) (length call.gone) (call.gone ++ b.held) (rw call.held at used))
+
+  -- a driver holds no more than it held and read
+  pub length_held : (decoded malformed : List (Item × ℕ)) → Resumes code last a b src n decoded malformed → length b.held ≤ length a.held + n
+  length_held decoded malformed call =
+      omega (arith, ap length call.held, length-append a.held (take n src), length-append call.gone b.held, length-take-le n src within)
+
+  -- a driver writes at most three bytes for each byte that it uses up
+  pub short_written : IsCode code → (written : List ℕ) (malformed : List (Item × ℕ)) → ResumesWriting code encode_utf8 last a b src n written malformed
+      → length written + 3 * (length malformed + length b.held) ≤ 3 * (length a.held + n)
+  short_written law written malformed call =
+      let short = short_call_law code law last a b src n call.decoded malformed are are_src within call.resumes in
+      let same : length written ≡ length (Rattle.enc_drivers.specs.Units.text call.decoded) = ap length (call.text ∙ text_in_utf_8 call.decoded) in
+      let are_end : AreBytes [] = All-nil (λ x. x < 256) in
+      let whole = a.held ++ (src ++ []) in
+      let rest = units code b.mode (b.held ++ (drop n src ++ [])) in
+      let are_whole : AreBytes whole = All-append (λ x. x < 256) a.held (src ++ []) are (All-append (λ x. x < 256) src [] are_src are_end) in
+      let all : units code a.mode whole ≡ call.decoded ++ (malformed ++ rest) = call.resumes.equation [] (record { bytes = are_end; none = λ e. refl }) in
+      let each : All HasByte (call.decoded ++ (malformed ++ rest)) = rw all at (some_within code law (length whole) a.mode whole are_whole (omega arith)) in
+      let later : All HasByte (malformed ++ rest) =
+      rw (← drop-append_seam call.decoded (malformed ++ rest)) (All-drop HasByte (length call.decoded) (call.decoded ++ (malformed ++ rest)) each) in
+      let wrong : All HasByte malformed = rw (← take-append_seam malformed rest) (All-take HasByte (length malformed) (malformed ++ rest) later) in
+      let some = sum_some malformed wrong in
+      omega arith
+
+-- a call of the driver on what has to be read first, in a decoder
+pub replayed : (at : DecoderStanding) (a b : Standing) (replay : List ℕ) (n : ℕ) (written : List ℕ) (malformed : List (Item × ℕ))
+    → ResumesWriting (unit at.encoding at.indexes) encode_utf8 false a b replay n written malformed
+    → DecoderResumesWriting false (record at { marks = no_mark; held = a.held ++ replay; mode = a.mode })
+    (record at { marks = no_mark; held = b.held ++ drop n replay; mode = b.mode }) [] 0 written malformed
+unfolding past_mark
+replayed at a b replay n written malformed call =
+    let code = unit at.encoding at.indexes in
+    record {
+      decoded = call.decoded;
+      resumes = record {
+        well_formed = call.resumes.well_formed;
+        equation = λ more follows.
+            ap (units code a.mode) (append_assoc a.held replay more)
+            ∙ (call.resumes.equation more follows
+            ∙ ap (λ (l : List ℕ). call.decoded ++ (malformed ++ units code b.mode l)) (sym (append_assoc b.held (drop n replay) more)));
+        same_encoding = λ more follows. refl;
+        same_indexes = refl;
+      };
+      text = call.text;
+    }
+
+-- the same with what a decoder keeps, in its own terms
+pub replayed_at : (indexes : Indexes) (encoding after : Encoding) (owes finished : Bool) (start : Start) (a b : Standing) (replay rest : List ℕ) (n : ℕ) (written : List ℕ) (malformed told : List (Item × ℕ))
+    → start ≡ Over → after ≡ encoding → rest ≡ drop n replay → told ≡ malformed
+    → ResumesWriting (unit encoding indexes) encode_utf8 false a b replay n written malformed
+    → DecoderResumesWriting false
+    (record { indexes = indexes; encoding = encoding; marks = marks_at start; held = held_at start (a.held ++ replay); mode = mode_at start a.mode; owes = owes; finished = finished })
+    (record { indexes = indexes; encoding = after; marks = marks_at start; held = held_at start (b.held ++ rest); mode = mode_at start b.mode; owes = owes; finished = finished })
+    [] 0 written told
+replayed_at indexes encoding after owes finished start a b replay rest n written malformed told over same is tells call =
+    rw (over, same, is, tells)
+    (replayed (record { indexes = indexes; encoding = encoding; marks = no_mark; held = []; mode = Plain; owes = owes; finished = finished }) a b replay n written malformed call)
+
+pub same_malformed : (tells : DecoderResult) (k : ℕ) → malformed_of (with_more tells k) ≡ malformed_of tells
+same_malformed result.InputEmpty k = refl
+same_malformed result.OutputFull k = refl
+same_malformed (result.Malformed n held) k = refl
+
+-- held bytes of a driver and of what has to be read first
+pub held_length : (start : Start) (a replay : List ℕ) → start ≡ Over → length (held_at start (a ++ replay)) ≡ length a + length replay
+held_length start a replay over = rw over (length-append a replay)
+
+-- two calls in a row
+pub resumes_more : (last : Bool) (a b c : DecoderStanding) (src : List ℕ) (n m read : ℕ) (one two whole : List ℕ) (malformed told : List (Item × ℕ))
+    → DecoderResumesWriting last a b src n one [] → DecoderResumesWriting last b c (drop n src) m two malformed
+    → read ≡ n + m → whole ≡ one ++ two → told ≡ malformed → DecoderResumesWriting last a c src read whole told
+resumes_more last a b c src n m read one two whole malformed told first second counts joins tells =
+    rw (counts, joins, tells) record {
+      decoded = first.decoded ++ second.decoded;
+      resumes = record {
+        well_formed = All-append (λ (u : Item × ℕ). ¬ (u.0 ≡ item.Malformed)) first.decoded second.decoded first.resumes.well_formed second.resumes.well_formed;
+        equation = λ more follows.
+            first.resumes.equation more follows
+            ∙ (ap (λ (l : List (Item × ℕ)). first.decoded ++ l) (second.resumes.equation more follows)
+            ∙ (sym (append_assoc first.decoded second.decoded (malformed ++ to_come c (drop m (drop n src) ++ more)))
+            ∙ ap (λ (l : List ℕ). (first.decoded ++ second.decoded) ++ (malformed ++ to_come c (l ++ more))) (drop-drop m n src)));
+        same_encoding = λ more follows.
+            first.resumes.same_encoding more follows
+            ∙ (second.resumes.same_encoding more follows ∙ ap (λ (l : List ℕ). encoding_to_come c (l ++ more)) (drop-drop m n src));
+        same_indexes = second.resumes.same_indexes ∙ first.resumes.same_indexes;
+      };
+      text = ap (λ (l : List ℕ). l ++ two) first.text ∙ (ap (λ (l : List ℕ). text_in encode_utf8 first.decoded ++ l) second.text
+          ∙ sym (flat_map-append (λ (u : Item × ℕ). item_in encode_utf8 u.0) first.decoded second.decoded));
+    }
+
+-- a call that reads nothing, with what is still to be read
+pub resumes_before : (last : Bool) (a b : DecoderStanding) (src written : List ℕ) (malformed : List (Item × ℕ)) → AreBytes src
+    → DecoderResumesWriting false a b [] 0 written malformed → DecoderResumesWriting last a b src 0 written malformed
+resumes_before last a b src written malformed are call = record {
+  decoded = call.decoded;
+  resumes = record {
+    well_formed = call.resumes.well_formed;
+    equation = λ more follows. call.resumes.equation (src ++ more)
+        (record { bytes = All-append (λ x. x < 256) src more are follows.bytes; none = λ e. cc e });
+    same_encoding = λ more follows. call.resumes.same_encoding (src ++ more)
+        (record { bytes = All-append (λ x. x < 256) src more are follows.bytes; none = λ e. cc e });
+    same_indexes = call.resumes.same_indexes;
+  };
+  text = call.text;
+}
+
+-- a call of the driver where nothing has to be read first, in a decoder
+pub converted_at : (indexes : Indexes) (encoding after : Encoding) (owes finished last : Bool) (start : Start) (a b : Standing) (replay src : List ℕ) (n : ℕ) (written : List ℕ) (malformed : List (Item × ℕ))
+    → start ≡ Over → after ≡ encoding → replay ≡ []
+    → ResumesWriting (unit encoding indexes) encode_utf8 last a b src n written malformed
+    → DecoderResumesWriting last
+    (record { indexes = indexes; encoding = encoding; marks = marks_at start; held = held_at start (a.held ++ replay); mode = mode_at start a.mode; owes = owes; finished = finished })
+    (record { indexes = indexes; encoding = after; marks = marks_at start; held = held_at start (b.held ++ replay); mode = mode_at start b.mode; owes = owes; finished = finished })
+    src n written malformed
+unfolding past_mark
+converted_at indexes encoding after owes finished last start a b replay src n written malformed over same none call =
+    let code = unit encoding indexes in
+    let before : a.held ++ [] ≡ a.held = append-nil a.held in
+    let behind : b.held ++ [] ≡ b.held = append-nil b.held in
+    rw (over, same, none) record {
+      decoded = call.decoded;
+      resumes = record {
+        well_formed = call.resumes.well_formed;
+        equation = λ more follows.
+            ap (λ (l : List ℕ). units code a.mode (l ++ (src ++ more))) before
+            ∙ (call.resumes.equation more follows
+            ∙ ap (λ (l : List ℕ). call.decoded ++ (malformed ++ units code b.mode (l ++ (drop n src ++ more)))) (sym behind));
+        same_encoding = λ more follows. refl;
+        same_indexes = refl;
+      };
+      text = call.text;
+    }
+
+-- the text of two writes, the second behind the first
+pub written_more : (from n : ℕ) (dst part : List ℕ) → from ≤ length dst → n ≤ length part
+    → take (from + n) (put_mid from (length dst - from) dst part) ≡ take from dst ++ take n part
+written_more from n dst part within fits =
+    let room = length dst - from in
+    let new = put_mid from room dst part in
+    let after = post_of from room dst in
+    let front : take from new ≡ take from dst = take-put_mid_below from room dst part from (le_refl from) within in
+    let mid : take n (drop from new) ≡ take n part =
+    ap (λ (l : List ℕ). take n l) (drop_at (take from dst) (part ++ after) from (length-take-le from dst within)) ∙ take-append-le n part after fits in
+    take-add from n new ∙ ap (λ (l : List ℕ). l ++ take n (drop from new)) front ∙ ap (λ (l : List ℕ). take from dst ++ l) mid
+
+pub none_written : (last : Bool) (a b : DecoderStanding) (src : List ℕ) (n : ℕ) → DecoderResumes last a b src n [] [] → DecoderResumesWriting last a b src n [] []
+none_written last a b src n call = record { decoded = []; resumes = call; text = refl }
+
+-- whether the stream has ended is nothing to what is to come
+pub resumes_finished : (last : Bool) (a b : DecoderStanding) (src : List ℕ) (n : ℕ) (written : List ℕ) (malformed : List (Item × ℕ)) (finished : Bool)
+    → DecoderResumesWriting last a b src n written malformed → DecoderResumesWriting last a (record b { finished = finished }) src n written malformed
+resumes_finished last a b src n written malformed finished call = record {
+  decoded = call.decoded;
+  resumes = record { well_formed = call.resumes.well_formed; equation = call.resumes.equation; same_encoding = call.resumes.same_encoding; same_indexes = call.resumes.same_indexes };
+  text = call.text;
+}
+
+pub may_hold_finished : (last : Bool) (at : DecoderStanding) (finished : Bool) → DecoderMayHold last at → DecoderMayHold last (record at { finished = finished })
+may_hold_finished last at finished may = record {
+  few = may.few;
+  end = may.end;
+  undecided = elim may.undecided [
+    | inl e ↦ inl e
+    | inr u ↦ inr (elim u [
+      | inl m ↦ inl (record { encoding = m.encoding; rest = m.rest; some = m.some; mark = m.mark; removed = m.removed })
+      | inr d ↦ inr (record { started = d.started; undecided = d.undecided })
+    ])
+  ];
+}
+
+pub may_hold_owes : (last : Bool) (at : DecoderStanding) (owes : Bool) → DecoderMayHold last at → DecoderMayHold last (record at { owes = owes })
+may_hold_owes last at owes may = record {
+  few = may.few;
+  end = may.end;
+  undecided = elim may.undecided [
+    | inl e ↦ inl e
+    | inr u ↦ inr (elim u [
+      | inl m ↦ inl (record { encoding = m.encoding; rest = m.rest; some = m.some; mark = m.mark; removed = m.removed })
+      | inr d ↦ inr (record { started = d.started; undecided = d.undecided })
+    ])
+  ];
+}
