@@ -1,5 +1,5 @@
 //! Reading until a buffer is full.
-ghost use Rattle.std.specs.Prelude.{◌≡◌, ◌<◌, ◌≤◌, IsNone, IfOk, IfErr, OnOk, OnErr, length, take};
+ghost use Rattle.std.specs.Prelude.{◌≡◌, ◌<◌, ◌≤◌, IsNone, IfOk, IfErr, OnOk, OnErr, min, length, take};
 ghost use Rattle.std.specs.Io.{ReadsAtMost};
 ghost use Rattle.std.specs.Io.KnownBytes.{Consumes, IsAtEnd};
 ghost use Rattle.enc_io.specs.Faults.{Rose};
@@ -31,4 +31,15 @@ pub fn read_full<S: Source>(source: &mut S, buf: &mut [u8]) -> Result<usize, (us
         }
     }
     Ok(count)
+}
+
+/// Moves the first of the bytes that wait to the front of `buf`, as many as wait and fit, and answers how many.
+pub(crate) fn give(waiting: &[u8], buf: &mut [u8]) -> usize
+    ensures count { result ≡ min (length buf.old) (length waiting.now) }
+    ensures given { take result buf.new ≡ take result waiting.now }
+    ensures len { length buf.new ≡ length buf.old }
+{
+    let count = buf.len().min(waiting.len());
+    buf[..count].copy_from_slice(&waiting[..count]);
+    count
 }
