@@ -73,6 +73,9 @@ impl<S: Source> BomPeeker<S> {
         ensures bytes { IfOk result (λ bom. bom_bytes bom ≡ (standing_of self.new).gathered) }
         ensures whole { IfOk result (λ bom. (standing_of self.new).ended ≡ false → bom.len ≡ 3) }
         ensures end { (standing_of self.new).ended ≡ true → IsAtEnd (S.left (source_of self.new)) }
+        ensures still_peeked { (standing_of self.old).peeked ≡ true → (standing_of self.new).peeked ≡ true }
+        ensures still_ended { (standing_of self.old).ended ≡ true → (standing_of self.new).ended ≡ true }
+        ensures not_ended { OnErr result ((standing_of self.new).ended ≡ false) }
         ensures again { (standing_of self.old).peeked ≡ true → IsOk result × (source_of self.new ≡ source_of self.old) × (standing_of self.new ≡ standing_of self.old) }
         ensures silent { IsNone (S.left (source_of self.old)) → IsNone (S.left (source_of self.new)) }
         ensures counted { OnOk result (S.faults (source_of self.new) ≡ S.faults (source_of self.old)) }
@@ -95,13 +98,16 @@ impl<S: Source> BomPeeker<S> {
     ///
     /// # Errors
     ///
-    /// A fault of the source, which moves nothing.
+    /// A fault of the source. It gives nothing, and what was gathered for the mark is kept.
     pub fn read(&mut self, buf: &mut [u8]) -> Result<usize, Failed>
         ensures within { ReadsAtMost result buf.new }
         ensures moves { PeekerMoves (S.left (source_of self.old)) (S.left (source_of self.new)) (standing_of self.old) (standing_of self.new) (given_by result buf.new) }
         ensures moved { ReadConsumes (still_known (standing_of self.old) (S.left (source_of self.old))) (still_known (standing_of self.new) (S.left (source_of self.new))) result buf.new }
         ensures all { IfOk result (λ n. n ≡ 0 → 0 < length buf.new → HasGivenAll (standing_of self.new)) }
         ensures end { (standing_of self.new).ended ≡ true → IsAtEnd (S.left (source_of self.new)) }
+        ensures still_peeked { (standing_of self.old).peeked ≡ true → (standing_of self.new).peeked ≡ true }
+        ensures still_ended { (standing_of self.old).ended ≡ true → (standing_of self.new).ended ≡ true }
+        ensures not_ended { OnErr result ((standing_of self.new).ended ≡ false) }
         ensures no_room { length buf.old ≡ 0 → (result ≡ Ok 0) × (source_of self.new ≡ source_of self.old) × (standing_of self.new ≡ standing_of self.old) }
         ensures after_end { (standing_of self.old).ended ≡ true → source_of self.new ≡ source_of self.old }
         ensures silent { IsNone (S.left (source_of self.old)) → IsNone (S.left (source_of self.new)) }
@@ -128,6 +134,7 @@ impl<S: Source> BomPeeker<S> {
         ensures moves { PeekerMoves (S.left (source_of self.old)) (S.left (source_of self.new)) (standing_of self.old) (standing_of self.new) [] }
         ensures taken { Consumes (S.left (source_of self.old)) (S.left (source_of self.new)) (drop (length (standing_of self.old).gathered) (standing_of self.new).gathered) }
         ensures peeked { OnOk result ((standing_of self.new).peeked ≡ true) }
+        ensures not_ended { OnErr result ((standing_of self.new).ended ≡ false) }
         ensures silent { IsNone (S.left (source_of self.old)) → IsNone (S.left (source_of self.new)) }
         ensures counted { OnOk result (S.faults (source_of self.new) ≡ S.faults (source_of self.old)) }
         ensures failed { OnErr result (Rose (S.faults (source_of self.old)) (S.faults (source_of self.new))) }
@@ -173,6 +180,8 @@ impl<S: Source> BomPeeker<S> {
         ensures within { ReadsAtMost result buf.new }
         ensures moves { PeekerMoves (S.left (source_of self.old)) (S.left (source_of self.new)) (standing_of self.old) (standing_of self.new) (given_by result buf.new) }
         ensures all { IfOk result (λ n. n ≡ 0 → 0 < length buf.new → HasGivenAll (standing_of self.new)) }
+        ensures still_peeked { (standing_of self.new).peeked ≡ true }
+        ensures not_ended { OnErr result ((standing_of self.new).ended ≡ false) }
         ensures silent { IsNone (S.left (source_of self.old)) → IsNone (S.left (source_of self.new)) }
         ensures counted { OnOk result (S.faults (source_of self.new) ≡ S.faults (source_of self.old)) }
         ensures failed { OnErr result (Rose (S.faults (source_of self.old)) (S.faults (source_of self.new))) }
