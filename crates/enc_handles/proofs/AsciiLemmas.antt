@@ -1,11 +1,14 @@
 -- The ASCII at the front of a list, its text, and the byte behind it.
-use Rattle.std.proofs.Common.{◌≡◌, ℕ, ◌+◌, ◌-◌, ◌<◌, ◌≤◌, Bool, true, false, ltb, cond, List, [], ◌∷◌, ◌++◌, length, take, get_or, refl, ap, suc, zero, arith, add-one, length-take}
+use Rattle.std.proofs.Common.{◌≡◌, ℕ, ◌+◌, ◌-◌, ◌<◌, ◌≤◌, Bool, true, false, ltb, cond, List, [], ◌∷◌, ◌++◌, length, take, get_or, not, nat_le, nat_lt, refl, ap, sym, subst, suc, zero, arith, add-one, length-take}
 use Rattle.std.proofs.lemmas.Bool.Decides.{nat_tests}
 use Rattle.std.specs.Borrow.{GName}
 use Rattle.std.specs.List.{flat_map}
+use Rattle.enc_strides.specs.Runs.{run_len}
 use Rattle.enc_handles.specs.Ascii.{ascii_len, moved_len, moved_text}
 use Rattle.enc_handles.specs.UnitSlice.{Puts}
 use Rattle.enc_handles.specs.Writing.{Writing, after_writing}
+use Rattle.enc_handles.proofs.PutLemmas.{puts_behind}
+use borrow.Rule.Slice.PartMut.{put_mid}
 
 pub ascii_len_le : (bytes : List ℕ) → ascii_len bytes ≤ length bytes
 ascii_len_le [] = omega arith
@@ -55,3 +58,20 @@ written old new xs ys at end b b' puts ends same text =
     let front : take end new ≡ take at old ++ ys = rw (ends, ← text) puts.front in
     let free : length new - end ≡ (length old - at) - length ys = rw (← text) (omega (arith, puts.same_length)) in
     cc
+
+run_step : (b n m : ℕ) → n ≡ m → cond (not (nat_le 0x80 b)) (1 + n) 0 ≡ cond (nat_lt b 0x80) (m + 1) 0
+run_step b n m e = grind (arith, nat_tests)
+
+-- the same length in the words of the strides
+pub run_len-is : (bytes : List ℕ) → run_len bytes ≡ ascii_len bytes
+run_len-is [] = refl
+run_len-is (b ∷ bs) = run_step b (run_len bs) (ascii_len bs) (run_len-is bs)
+
+-- ASCII that was written into the part behind a place
+pub ascii_behind : (src old ys : List ℕ) (at n : ℕ) → at ≤ length old → length ys ≡ length old - at → n ≡ moved_len src (length old - at)
+    → take n ys ≡ take n src → Puts old (put_mid at (length old - at) old ys) at (take (moved_len src (length old - at)) src)
+ascii_behind src old ys at n within same count copied =
+    let m = moved_len src (length old - at) in
+    let long = length-take-moved_len src (length old - at) in
+    puts_behind old ys (take m src) at within same (omega (arith, long))
+    (subst (λ k. take k ys ≡ take m src) (sym long) (subst (λ k. take k ys ≡ take k src) count copied))

@@ -1,26 +1,21 @@
 -- A copy of well-formed sequences, one sequence at a time.
-use Rattle.std.proofs.Common.{◌≡◌, ℕ, ◌+◌, ◌-◌, ◌<◌, ◌≤◌, List, [], ◌∷◌, ◌++◌, length, drop, refl, sym, ap, ◌∙◌, arith, append_assoc, length-append}
+use Rattle.std.proofs.Common.{take, subst, length-take, ◌≡◌, ℕ, ◌+◌, ◌-◌, ◌<◌, ◌≤◌, List, [], ◌∷◌, ◌++◌, length, drop, refl, sym, ap, ◌∙◌, arith, append_assoc, length-append}
 use Rattle.std.proofs.lemmas.Bool.{and_from, and_parts}
 use Rattle.std.proofs.lemmas.Grind.{flat_map-append}
 use Rattle.std.proofs.lemmas.List.{append-nil}
 use Rattle.std.proofs.lemmas.Str.{encodes-append}
 use Rattle.std.specs.Char.{IsScalar}
+use Rattle.std.specs.Str.{IsUtf8}
+use borrow.Rule.Slice.PartMut.{put_mid}
 use lib.Utf8.{encode, encodes}
-use Rattle.enc_handles.specs.Copies.{CopiesUtf8}
+use Rattle.enc_handles.specs.Copies.{Copied, MovesFront, CopiesUtf8}
 use Rattle.enc_handles.specs.Reading.{Reading, left, after_reading}
 use Rattle.enc_handles.specs.Utf8.{AreScalars, text_of, IsFittingFront, sequence_len}
 use Rattle.enc_handles.specs.Writing.{Writing, after_writing}
-use Rattle.enc_handles.proofs.Longest.{begins-from, longest-none, longest-full}
+use Rattle.enc_handles.proofs.Longest.{begins-split, begins-from, longest-none, longest-full}
 use Rattle.enc_handles.proofs.LoopLemmas.{after_reading-add, left-after_reading, after_writing-append}
+use Rattle.enc_handles.proofs.PutLemmas.{puts_behind}
 use Rattle.enc_handles.proofs.Sequences.{encode-sequence}
-
--- these scalars were copied so far
-pub record Copied (form : ℕ → List ℕ) (r₀ r : Reading) (w₀ w : Writing) (scalars : List ℕ) : Type 0 where
-  pub each : AreScalars scalars
-  pub rest : left r₀ ≡ encodes scalars ++ left r
-  pub read : r ≡ after_reading r₀ (length (encodes scalars))
-  pub written : w ≡ after_writing w₀ (text_of form scalars)
-  pub room : length (text_of form scalars) + w.free ≡ w₀.free
 
 pub copied_none : (form : ℕ → List ℕ) (r : Reading) (w : Writing) → Copied form r r w w []
 copied_none form r w = record {
@@ -90,3 +85,47 @@ copies_full form r₀ r w₀ w scalars c tail so_far next full = record {
   read = so_far.read;
   written = so_far.written;
 }
+
+-- after a front was moved
+pub copied_front : (form : ℕ → List ℕ) (r r' : Reading) (w w' : Writing) (bytes old new : List ℕ) (at : ℕ) (moved : ℕ × ℕ) (h : MovesFront form bytes old new at moved)
+    → left r ≡ bytes → r' ≡ after_reading r moved.0 → w' ≡ after_writing w (text_of form h.scalars) → w.free ≡ length old - at → Copied form r r' w w' h.scalars
+copied_front form r r' w w' bytes old new at moved h window read written free =
+    let count = length (encodes h.scalars) in
+    let seen : r' ≡ after_reading r count = read ∙ ap (after_reading r) h.read in
+    let here : left r' ≡ drop count bytes = ap left seen ∙ (left-after_reading r count ∙ ap (drop count) window) in
+    let fits = h.fitting.fits in
+    record {
+      each = h.fitting.each;
+      rest = window ∙ (begins-split h.scalars bytes h.fitting.front ∙ ap (λ (l : List ℕ). encodes h.scalars ++ l) (sym here));
+      read = seen;
+      written = written;
+      room = omega (arith, ap (λ (v : Writing). v.free) written);
+    }
+
+pub moved-le : (form : ℕ → List ℕ) (bytes old new : List ℕ) (at : ℕ) (moved : ℕ × ℕ) → MovesFront form bytes old new at moved → moved.0 ≤ length bytes
+moved-le form bytes old new at moved h = omega (arith, h.read, ap length h.fitting.front, length-take (length (encodes h.scalars)) bytes)
+
+utf8_text : (cs : List ℕ) → text_of encode cs ≡ encodes cs
+utf8_text [] = refl
+utf8_text (c ∷ cs) = ap (λ (l : List ℕ). encode c ++ l) (utf8_text cs)
+
+-- UTF-8 that was written into the part behind a place
+pub moves_utf8 : (bytes old ys : List ℕ) (at n : ℕ) → at ≤ length old → length ys ≡ length old - at → n ≤ length ys → n ≤ length bytes
+    → IsUtf8 (take n bytes) → take n ys ≡ take n bytes → MovesFront encode bytes old (put_mid at (length old - at) old ys) at (n, at + n)
+moves_utf8 bytes old ys at n within same few inside whole copied =
+    let scalars = whole.0 in
+    let text = utf8_text scalars in
+    let count : length (encodes scalars) ≡ n = ap length whole.1.1 ∙ (length-take n bytes ∙ omega arith) in
+    let spelt : length (text_of encode scalars) ≡ n = ap length text ∙ count in
+    record {
+      scalars = scalars;
+      fitting = record {
+        each = whole.1.0;
+        front = subst (λ k. take k bytes ≡ encodes scalars) (sym count) (sym whole.1.1);
+        fits = omega (arith, spelt);
+      };
+      read = sym count;
+      end = omega (arith, spelt);
+      text = puts_behind old ys (text_of encode scalars) at within same (omega (arith, spelt))
+          (subst (λ k. take k ys ≡ text_of encode scalars) (sym spelt) (copied ∙ (sym whole.1.1 ∙ sym text)));
+    }

@@ -1,9 +1,12 @@
 pub mod AsciiLemmas
 pub mod CodeUnits
+pub mod CopyParts
 pub mod CopyUtf16
 pub mod CopyUtf8
+pub mod Fronts
 pub mod Longest
 pub mod LoopLemmas
+pub mod PutLemmas
 pub mod Sequences
 pub mod Surrogates
 pub mod TextLemmas

@@ -9,7 +9,7 @@ use lib.Utf8.{encode, encodes}
 use Rattle.enc_handles.specs.Utf8.{AreScalars, BeginsWith, text_of, IsFittingFront, IsLongestFront}
 
 -- a list that begins with these sequences is their bytes and a rest
-begins-split : (cs bytes : List ℕ) → BeginsWith cs bytes → bytes ≡ encodes cs ++ drop (length (encodes cs)) bytes
+pub begins-split : (cs bytes : List ℕ) → BeginsWith cs bytes → bytes ≡ encodes cs ++ drop (length (encodes cs)) bytes
 begins-split cs bytes h = sym (take-append-drop (length (encodes cs)) bytes) ∙ ap (λ (l : List ℕ). l ++ drop (length (encodes cs)) bytes) h
 
 pub begins-from : (cs bytes rest : List ℕ) → bytes ≡ encodes cs ++ rest → BeginsWith cs bytes

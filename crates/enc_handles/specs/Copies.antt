@@ -1,8 +1,9 @@
 -- What the bulk copies move.
-use Rattle.std.specs.Prelude.{◌≡◌, ℕ, ◌+◌, ◌*◌, ◌<◌, ◌≤◌, ◌⊎◌, Bool, true, MatchBool, List, length, take, Option, MatchOption, encode_utf8_all}
+use Rattle.std.specs.Prelude.{◌≡◌, ℕ, ◌+◌, ◌-◌, ◌++◌, ◌*◌, ◌<◌, ◌≤◌, ◌⊎◌, Bool, true, MatchBool, List, length, take, Option, MatchOption, encode_utf8_all}
 use Rattle.enc_handles.specs.Reading.{Reading, left, after_reading}
 use Rattle.enc_handles.specs.Utf16.{encode_utf16_all, is_unpaired_at}
-use Rattle.enc_handles.specs.Utf8.{AreScalars, text_of, IsLongestFront}
+use Rattle.enc_handles.specs.Utf8.{AreScalars, text_of, IsFittingFront, IsLongestFront}
+use Rattle.enc_handles.specs.UnitSlice.{Puts}
 use Rattle.enc_handles.specs.Writing.{Writing, after_writing}
 
 -- the longest front of whole well-formed sequences whose text fits the room was read, and its text was written
@@ -11,6 +12,22 @@ pub record CopiesUtf8 (form : ℕ → List ℕ) (old new : Reading) (before afte
   pub longest : IsLongestFront form (left old) before.free scalars
   pub read : new ≡ after_reading old (length (encode_utf8_all scalars))
   pub written : after ≡ after_writing before (text_of form scalars)
+
+-- these scalars were copied so far
+pub record Copied (form : ℕ → List ℕ) (r₀ r : Reading) (w₀ w : Writing) (scalars : List ℕ) : Type 0 where
+  pub each : AreScalars scalars
+  pub rest : left r₀ ≡ encode_utf8_all scalars ++ left r
+  pub read : r ≡ after_reading r₀ (length (encode_utf8_all scalars))
+  pub written : w ≡ after_writing w₀ (text_of form scalars)
+  pub room : length (text_of form scalars) + w.free ≡ w₀.free
+
+-- a front of whole well-formed sequences that fits behind place `at` was moved: how many bytes, and the place behind
+pub record MovesFront (form : ℕ → List ℕ) (bytes old new : List ℕ) (at : ℕ) (moved : ℕ × ℕ) : Type 0 where
+  pub scalars : List ℕ
+  pub fitting : IsFittingFront form bytes (length old - at) scalars
+  pub read : moved.0 ≡ length (encode_utf8_all scalars)
+  pub end : moved.1 ≡ at + length (text_of form scalars)
+  pub text : Puts old new at (text_of form scalars)
 
 -- n units were read, and the window ended there or less than the needed room was left
 pub record StopsBehind (window : List ℕ) (needed : ℕ) (old new : Reading) (after : Writing) (n : ℕ) : Type 0 where

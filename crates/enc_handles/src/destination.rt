@@ -1,7 +1,7 @@
 //! Destinations for text, in UTF-8 and in UTF-16.
 ghost use Rattle.std.specs.Prelude.{◌≡◌, ◌+◌, ◌-◌, ◌<◌, ◌≤◌, ◌↔◌, [], ◌∷◌, length, List, ℕ, IsTrue, encode_utf8, slice_index, IsOk, IfOk, IfErr, OnOk, OnErr};
 ghost use Rattle.enc_handles.specs.Ascii.{ascii_len, moved_len, moved_text, stop_result, GoesOn};
-ghost use Rattle.enc_handles.specs.Copies.{CopiesUtf8, CopiesUnits, CopiesUtf16};
+ghost use Rattle.enc_handles.specs.Copies.{Copied, CopiesUtf8, CopiesUnits, CopiesUtf16};
 ghost use Rattle.enc_handles.specs.Unaligned.{units_in};
 ghost use Rattle.enc_handles.specs.Reading.{left, after_reading};
 ghost use Rattle.enc_handles.specs.ByteSource.{reading};
@@ -239,6 +239,17 @@ impl<S: UnitSlice> DestinationOver<S> {
         (read, false)
     }
 
+    // Moves whole well-formed sequences, as many as the slice sees fit.
+    fn move_front<B: ByteSlice>(&mut self, source: &mut ByteSourceOver<B>)
+        ensures { (scalars : List ℕ) × Copied S.encode (reading source.old) (reading source.new) (writing self.old) (writing self.new) scalars }
+    {
+        let bytes = source.rest();
+        let (read, end) = self.slice.copy_utf8_at(self.pos, bytes);
+        let rest = bytes.len() - read;
+        self.pos = end;
+        source.read_until(rest);
+    }
+
     // Moves ASCII, and then reads the byte past it if there is one and `needed` elements are free.
     fn move_ascii<B: ByteSlice>(
         &mut self,
@@ -336,6 +347,7 @@ impl<S: UnitSlice> Destination for DestinationOver<S> {
     }
 
     fn copy_utf8_up_to_invalid_from<B: ByteSlice>(&mut self, source: &mut ByteSourceOver<B>) {
+        self.move_front(source);
         loop {
             let bytes = source.rest();
             let len = sequence_len(bytes);

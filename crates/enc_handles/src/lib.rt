@@ -16,3 +16,4 @@ pub mod unaligned;
 pub mod unit_slice;
 mod utf16;
 mod utf8;
+mod utf8_parts;

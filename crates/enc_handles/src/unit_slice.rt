@@ -5,8 +5,12 @@ ghost use Rattle.std.specs.Char.{IsScalar};
 ghost use Rattle.std.specs.Char.Escape.{encode_utf16};
 ghost use Rattle.enc_handles.specs.Ascii.{moved_len};
 ghost use Rattle.enc_handles.specs.Utf16.{TakesWhatFits};
+ghost use Rattle.enc_handles.specs.Copies.{MovesFront};
 ghost use Rattle.enc_handles.specs.UnitSlice.{Puts};
 ghost use Rattle.enc_handles.specs.Rooms.{takes_what_fits_utf8, takes_what_fits_utf16, ascii_text_utf8, ascii_text_utf16, bmp_fits_utf8, astral_fits_utf8, two_fit_utf8, bmp_fits_utf16, astral_fits_utf16, two_fit_utf16};
+
+use crate::utf8_parts::copy_utf8;
+use enc_strides::runs::{ascii_to_ascii, ascii_to_basic_latin};
 
 /// A slice of code units: a `&mut [u8]` for UTF-8, a `&mut [u16]` for UTF-16.
 pub trait UnitSlice: Drop {
@@ -81,6 +85,13 @@ pub trait UnitSlice: Drop {
         ensures end { result ≡ at + moved_len src.now (length (units self.old) - at) }
         ensures text { Puts (units self.old) (units self.new) at
             (take (moved_len src.now (length (units self.old) - at)) src.now) }
+        ensures same_buffer { buffer self.new ≡ buffer self.old };
+
+    /// Moves whole well-formed UTF-8 sequences from the front of `src` to `at` and behind it, as many as it sees fit,
+    /// and answers how many bytes they are and the place behind their text. What stands there is left open.
+    fn copy_utf8_at(&mut self, at: usize, src: &[u8]) -> (usize, usize)
+        requires { at ≤ length (units self.old) }
+        ensures moved { MovesFront encode src.now (units self.old) (units self.new) at result }
         ensures same_buffer { buffer self.new ≡ buffer self.old };
 
     /// What a copy of UTF-16 takes fits.
@@ -217,7 +228,13 @@ impl<'a> UnitSlice for &'a mut [u8] {
     }
 
     fn copy_ascii_at(&mut self, at: usize, src: &[u8]) -> usize {
-        ascii_to_ascii(src, self, at)
+        let len = ascii_to_ascii(src, &mut self[at..]);
+        at + len
+    }
+
+    fn copy_utf8_at(&mut self, at: usize, src: &[u8]) -> (usize, usize) {
+        let len = copy_utf8(src, &mut self[at..]);
+        (len, at + len)
     }
 
     ghost utf16_room = { 4 };
@@ -279,7 +296,12 @@ impl<'a> UnitSlice for &'a mut [u16] {
     }
 
     fn copy_ascii_at(&mut self, at: usize, src: &[u8]) -> usize {
-        ascii_to_basic_latin(src, self, at)
+        let len = ascii_to_basic_latin(src, &mut self[at..]);
+        at + len
+    }
+
+    fn copy_utf8_at(&mut self, at: usize, src: &[u8]) -> (usize, usize) {
+        (0, at)
     }
 
     ghost utf16_room = { 0 };
@@ -303,34 +325,4 @@ impl<'a> UnitSlice for &'a mut [u16] {
     ghost astral_fits = { astral_fits_utf16 };
 
     ghost two_fit = { two_fit_utf16 };
-}
-
-fn ascii_to_ascii(src: &[u8], dst: &mut [u8], at: usize) -> usize
-    requires { at ≤ length dst.old }
-    ensures end { result ≡ at + moved_len src.now (length dst.old - at) }
-    ensures text { Puts dst.old dst.new at (take (moved_len src.now (length dst.old - at)) src.now) }
-{
-    let room = dst.len() - at;
-    for (i, byte) in src.iter().enumerate() {
-        if i == room || *byte >= 0x80 {
-            return at + i;
-        }
-        dst[at + i] = *byte;
-    }
-    at + src.len()
-}
-
-fn ascii_to_basic_latin(src: &[u8], dst: &mut [u16], at: usize) -> usize
-    requires { at ≤ length dst.old }
-    ensures end { result ≡ at + moved_len src.now (length dst.old - at) }
-    ensures text { Puts dst.old dst.new at (take (moved_len src.now (length dst.old - at)) src.now) }
-{
-    let room = dst.len() - at;
-    for (i, byte) in src.iter().enumerate() {
-        if i == room || *byte > 0x7F {
-            return at + i;
-        }
-        dst[at + i] = u16::from(*byte);
-    }
-    at + src.len()
 }

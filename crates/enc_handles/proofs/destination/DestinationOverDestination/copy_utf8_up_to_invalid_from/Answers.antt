@@ -4,11 +4,11 @@ use Rattle.enc_handles.specs.ByteSource.{reading}
 use Rattle.enc_handles.specs.Destination.{writing}
 use Rattle.enc_handles.specs.Reading.{left, after_reading}
 use Rattle.enc_handles.specs.Utf8.{sequence_len}
-use Rattle.enc_handles.proofs.CopyUtf8.{copied_none, copied_more, copies_none, copies_full}
+use Rattle.enc_handles.proofs.CopyUtf8.{copied_more, copies_none, copies_full}
 use Rattle.enc_handles.proofs.destination.DestinationOverDestination.copy_utf8_up_to_invalid_from.Goals as goal
 
 pub loop-bytes-init : goal.loop-bytes-init
-loop-bytes-init g c = ([], copied_none g.S.UnitSlice.encode (reading c.args.source.now) (writing c.args.self.now))
+loop-bytes-init g c = c.move_front.ensures
 
 pub returns-then-len-eq0 : goal.returns-then-len-eq0
 returns-then-len-eq0 g c =
