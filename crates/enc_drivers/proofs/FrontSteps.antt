@@ -1,22 +1,20 @@
 -- What a look at a front tells.
-use Rattle.std.proofs.Common.{◌≡◌, ℕ, ◌<◌, ◌≤◌, Bool, true, false, List, [], ◌∷◌, ◌++◌, length, take, drop, refl, ap, sym, ◌∙◌, inr, arith, length-append, length-drop, append_assoc, ◌+◌, get_or, get_or-drop}
+use Rattle.std.proofs.Common.{◌≡◌, ℕ, ◌<◌, ◌≤◌, Bool, true, false, List, [], ◌∷◌, ◌++◌, length, take, drop, ◌+◌, ◌-◌, get_or, refl, ap, sym, subst, ◌∙◌, inl, inr, arith, length-append, length-drop, append_assoc}
 use Rattle.std.specs.Prelude.{nat_le}
 use Rattle.std.proofs.lemmas.Bool.{leb-false}
-use Rattle.std.proofs.lemmas.List.{take-append-le, take_more, append-nil}
+use Rattle.std.proofs.lemmas.List.{take-append-le, take_more, append-nil, nil_from_length}
 use Rattle.std.proofs.lemmas.List.Elements.{All-append}
 use Rattle.std.proofs.lemmas.Grind.{common_steps}
-use Rattle.enc_drivers.specs.declared.Mode.{Mode}
+use Rattle.enc_drivers.specs.declared.unit.Mode.{Mode}
 use Rattle.enc_drivers.specs.declared.code.Step.{Step}
 use Rattle.enc_drivers.specs.declared.code.Step.TheVariants as step
-use Rattle.enc_handles.specs.Reading.{Reading, left, after_reading, read_len}
-use Rattle.enc_handles.proofs.LoopLemmas.{after_reading-add, left-after_reading}
 use Rattle.enc_drivers.specs.Turn.{StepsFront, Finds, ReadsOnto, Looks}
-use Rattle.enc_drivers.specs.Resume.{Standing}
+use Rattle.enc_drivers.specs.Resume.{Standing, IsOpen}
 use Rattle.enc_drivers.specs.Steps.{Steps, IsUndecided}
 use Rattle.enc_drivers.specs.Units.{Code, IsCode, AreBytes}
 
 -- four bytes decide
-undecided_few : (unit : Code) (mode : Mode) (held : List ℕ) → IsCode unit → AreBytes held → IsUndecided unit mode held → length held < 4
+pub undecided_few : (unit : Code) (mode : Mode) (held : List ℕ) → IsCode unit → AreBytes held → IsUndecided unit mode held → length held < 4
 undecided_few unit mode held laws are u = by_test (nat_le 4 (length held)) refl
   where
     front : (more : List ℕ) → 4 ≤ length held → take 4 (held ++ more) ≡ take 4 held
@@ -37,43 +35,45 @@ steps_front unit last mode held step.More laws are some four s =
     record { few = omega (arith, undecided_few unit mode held laws are s.1); end = λ e. cc (s.0); undecided = inr s.1 }
 
 -- nothing was read yet, or one byte more
-pub reads_none : (front : List ℕ) (r : Reading) → ReadsOnto front front r r 0
-reads_none front r = record {
+pub reads_none : (unit : Code) (mode : Mode) (front src : List ℕ) → ReadsOnto unit mode front front src 0
+reads_none unit mode front src = record {
   within = omega arith;
-  read = ap (λ (p : ℕ). record r { place = p }) (omega arith);
   front = sym (append-nil front);
+  needed = λ some. absurd (omega arith);
 }
 
-pub reads_more : (a b b' : List ℕ) (r r' r'' : Reading) → ReadsOnto a b r r' (read_len r r') → 0 < length (left r')
-    → r'' ≡ after_reading r' 1 → b' ≡ b ++ get_or (left r') 0 0 ∷ [] → ReadsOnto a b' r r'' (read_len r r'')
-reads_more a b b' r r' r'' so_far more read front =
-    let n = read_len r r' in
-    let rest : left r' ≡ drop n (left r) = ap left so_far.read ∙ left-after_reading r n in
-    let some : n < length (left r) = omega (arith, ap length rest, length-drop n (left r)) in
-    let here : get_or (left r') 0 0 ≡ get_or (left r) n 0 = ap (λ (xs : List ℕ). get_or xs 0 0) rest ∙ get_or-drop n (left r) 0 0 ∙ ap (λ k. get_or (left r) k 0) (omega arith) in
-    let whole : r'' ≡ after_reading r (n + 1) = read ∙ ap (λ q. after_reading q 1) so_far.read ∙ after_reading-add r n 1 in
-    let count : read_len r r'' ≡ n + 1 = let place : r''.place ≡ r.place + (n + 1) = ap (λ (q : Reading). q.place) whole in omega arith in
-    rw count (record {
-      within = omega arith;
-      read = whole;
-      front = front ∙ ap (λ (xs : List ℕ). xs ++ get_or (left r') 0 0 ∷ []) so_far.front
-          ∙ append_assoc a (take n (left r)) (get_or (left r') 0 0 ∷ [])
-          ∙ ap (λ (xs : List ℕ). a ++ xs) (ap (λ x. take n (left r) ++ x ∷ []) here ∙ sym (take_more (left r) n 0 some));
-    })
+pub reads_more : (unit : Code) (mode : Mode) (a b b' src : List ℕ) (n : ℕ) (x : ℕ) → ReadsOnto unit mode a b src n → n < length src
+    → IsOpen unit (record { held = b; mode = mode }) → x ≡ get_or src n 0 → b' ≡ b ++ x ∷ [] → ReadsOnto unit mode a b' src (n + 1)
+reads_more unit mode a b b' src n x so_far more waits here front = record {
+  within = omega arith;
+  front = front ∙ ap (λ (xs : List ℕ). xs ++ x ∷ []) so_far.front
+      ∙ append_assoc a (take n src) (x ∷ [])
+      ∙ ap (λ (xs : List ℕ). a ++ xs) (ap (λ y. take n src ++ y ∷ []) here ∙ sym (take_more src n 0 more));
+  needed = λ some.
+      let count : n + 1 - 1 ≡ n = omega arith in
+      rw count (subst (λ (xs : List ℕ). IsOpen unit (record { held = xs; mode = mode })) so_far.front waits);
+}
 
-empty : (xs : List ℕ) → ¬ (0 < length xs) → xs ≡ []
-empty [] h = refl
-empty (x ∷ xs) h = absurd (h (omega arith))
-
-finds_end : (unit : Code) (last : Bool) (front : Standing) (r : Reading) (step : Step) → left r ≡ [] → StepsFront unit last front step → Finds unit last front r step
-finds_end unit last front r (step.Unit item length next) end s = (last, s, λ e. (e, end))
-finds_end unit last front r step.More end s = (s, end)
+finds_end : (unit : Code) (last : Bool) (front : Standing) (rest : List ℕ) (step : Step) → rest ≡ [] → StepsFront unit last front step → Finds unit last front rest step
+finds_end unit last front rest (step.Unit item length next) end s = (last, s, λ e. (e, end))
+finds_end unit last front rest step.More end s = (s, end)
 
 -- nothing is left
-pub looks_end : (unit : Code) (mode : Mode) (last : Bool) (a b b' : List ℕ) (r r' r'' : Reading) (step : Step) → ReadsOnto a b r r' (read_len r r')
-    → r'' ≡ r' → b' ≡ b → ¬ (0 < length (left r')) → StepsFront unit last (record { held = b'; mode = mode }) step → Looks unit mode last a b' r r'' step
-looks_end unit mode last a b b' r r' r'' step so_far same_source same_front none s = record {
-  count = read_len r r';
-  reads = record { within = so_far.within; read = same_source ∙ so_far.read; front = same_front ∙ so_far.front };
-  finds = finds_end unit last (record { held = b'; mode = mode }) r'' step (ap left same_source ∙ empty (left r') none) s;
+pub looks_end : (unit : Code) (mode : Mode) (last : Bool) (a b src : List ℕ) (n : ℕ) (step : Step) → ReadsOnto unit mode a b src n
+    → length src ≤ n → StepsFront unit last (record { held = b; mode = mode }) step → Looks unit mode last a b src n step
+looks_end unit mode last a b src n step so_far all s = record {
+  reads = so_far;
+  finds = finds_end unit last (record { held = b; mode = mode }) (drop n src) step (nil_from_length (drop n src) (omega (arith, length-drop n src))) s;
 }
+
+-- bytes at the front of an open front are open
+pub open_front : (unit : Code) (mode : Mode) (xs ys : List ℕ) → AreBytes ys → IsOpen unit (record { held = xs ++ ys; mode = mode }) → IsOpen unit (record { held = xs; mode = mode })
+open_front unit mode [] ys are waits = inl refl
+open_front unit mode (x ∷ xs) ys are (inl none) = cc
+open_front unit mode (x ∷ xs) ys are (inr u) = inr (record {
+  one = ys ++ u.one;
+  other = ys ++ u.other;
+  one_bytes = All-append (λ b. b < 256) ys u.one are u.one_bytes;
+  other_bytes = All-append (λ b. b < 256) ys u.other are u.other_bytes;
+  differ = λ e. u.differ (ap (unit mode) (append_assoc (x ∷ xs) ys u.one) ∙ (e ∙ ap (unit mode) (sym (append_assoc (x ∷ xs) ys u.other))));
+})

@@ -1,6 +1,14 @@
 pub mod CallLemmas
+pub mod EucJpSteps
 pub mod FrontSteps
+pub mod Fronts
+pub mod Gb18030Steps
+pub mod Iso2022JpSteps
+pub mod MultiBytePlaces
 pub mod OneByte
+pub mod Runs
+pub mod PairPlaces
+pub mod PairSteps
 pub mod StepLemmas
 pub mod Turns
 pub mod UnitLemmas

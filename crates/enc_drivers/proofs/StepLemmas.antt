@@ -1,8 +1,8 @@
 -- What an answer of `step` has to show.
 use Rattle.std.proofs.Common.{◌≡◌, ℕ, Bool, true, false, cond, List, ◌++◌, refl, sym, ap, subst, ◌∙◌}
 use Rattle.std.proofs.lemmas.List.{append-nil}
-use Rattle.enc_drivers.specs.declared.Item.TheVariants.{Malformed}
-use Rattle.enc_drivers.specs.declared.Mode.{Mode}
+use Rattle.enc_drivers.specs.declared.unit.Item.TheVariants.{Malformed}
+use Rattle.enc_drivers.specs.declared.unit.Mode.{Mode}
 use Rattle.enc_drivers.specs.declared.code.Step.{Step}
 use Rattle.enc_drivers.specs.declared.code.Step.TheVariants as step
 use Rattle.enc_drivers.specs.Steps.{IsUndecided, Steps}

@@ -3,8 +3,8 @@ use Rattle.std.proofs.Common.{◌≡◌, ℕ, zero, suc, ◌+◌, ◌-◌, ◌*�
 use Rattle.std.specs.List.{sum_by}
 use Rattle.std.proofs.lemmas.List.Elements.{All-drop}
 use Rattle.std.proofs.lemmas.List.Sums.{sum_by-cons}
-use Rattle.enc_drivers.specs.declared.Item.{Item}
-use Rattle.enc_drivers.specs.declared.Mode.{Mode}
+use Rattle.enc_drivers.specs.declared.unit.Item.{Item}
+use Rattle.enc_drivers.specs.declared.unit.Mode.{Mode}
 use Rattle.enc_drivers.specs.Units.{Code, IsCode, AreBytes, first_units, units, text, item_text}
 
 first_units_nil : (unit : Code) (n : ℕ) (mode : Mode) → first_units unit n mode [] ≡ []

@@ -6,9 +6,9 @@ use lib.Utf8.{scalar_cases}
 use Rattle.std.proofs.lemmas.Bool.{ltb-false}
 use Rattle.std.proofs.lemmas.Bool.Decides.{nat_tests}
 use Rattle.enc_handles.specs.Utf16.{code_unit, is_lead, is_trail, pair_scalar}
-use Rattle.enc_drivers.specs.declared.Mode.{Mode}
+use Rattle.enc_drivers.specs.declared.unit.Mode.{Mode}
 use Rattle.enc_drivers.specs.Units.{scalar_at}
-use Rattle.enc_drivers.specs.Utf16.{utf16_unit, unit_bytes, scalar_bytes}
+use Rattle.enc_drivers.specs.Codes.Utf16.{utf16_unit, unit_bytes, scalar_bytes}
 
 single_read : (big : Bool) (mode : Mode) (a b c : ℕ) (rest : List ℕ) → code_unit big a b ≡ c → is_lead c ≡ false → is_trail c ≡ false → utf16_unit big mode (a ∷ b ∷ rest) ≡ scalar_at mode c 2
 unfolding utf16_unit

@@ -3,10 +3,10 @@ use Rattle.std.proofs.Common.{◌≡◌, ℕ, ◌<◌, ◌≤◌, Bool, true, fa
 use Rattle.std.specs.Prelude.{◌⊎◌}
 use Rattle.std.proofs.lemmas.List.Elements.{All-nil, All-cons}
 use Rattle.enc_handles.specs.Utf16.{code_unit, is_lead, is_trail, pair_scalar}
-use Rattle.enc_drivers.specs.declared.Mode.{Mode}
+use Rattle.enc_drivers.specs.declared.unit.Mode.{Mode}
 use Rattle.enc_drivers.specs.Units.{scalar_at, malformed_at, AreBytes}
 use Rattle.enc_drivers.specs.Steps.{IsUndecided}
-use Rattle.enc_drivers.specs.Utf16.{single_unit, utf16_unit}
+use Rattle.enc_drivers.specs.Codes.Utf16.{single_unit, utf16_unit}
 
 -- a code unit that is no lead
 single_whole : (big : Bool) (mode : Mode) (a b : ℕ) (rest : List ℕ) → is_lead (code_unit big a b) ≡ false → utf16_unit big mode (a ∷ b ∷ rest) ≡ single_unit mode (code_unit big a b)

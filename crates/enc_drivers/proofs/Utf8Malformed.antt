@@ -7,7 +7,7 @@ use Rattle.enc_drivers.specs.Units.{AreBytes}
 use Rattle.enc_drivers.proofs.Utf8Rows.{Three, Four, Row, NoRow, no_row, one, two, three_e0, three_e1, three_ed, three_ee, four_f0, four_f1, four_f4, row_of, three, four, byte_in_from, two_from, three_from, four_from, kind_of, len_three, len_four}
 use Rattle.std.proofs.lemmas.List.{get_or_append_left, get_or-append-add, get_or-take, length-take-le}
 use Rattle.enc_handles.specs.Utf8.{byte_in, is_tail_at, begins_two, begins_three, begins_four, sequence_len}
-use Rattle.enc_drivers.specs.Utf8.{begins_pair, two_of_three, two_of_four, malformed_len, BeginsSequence, IsLongestBegun}
+use Rattle.enc_drivers.specs.Codes.Utf8.{begins_pair, two_of_three, two_of_four, malformed_len, BeginsSequence, IsLongestBegun}
 use Rattle.enc_drivers.specs.Lemmas.Utf8Law.{ByteAt, byte_at, both}
 
 -- the front of k bytes and what is put behind it agree with the bytes below k

@@ -5,9 +5,9 @@ use Rattle.std.proofs.lemmas.Bool.{ne_eqb}
 use Rattle.std.proofs.lemmas.Str.{encode_same}
 use Rattle.enc_handles.specs.Utf8.{sequence_len, sequence_scalar}
 use Rattle.enc_handles.proofs.Sequences.{sequence-Decodes, encode-sequence}
-use Rattle.enc_drivers.specs.declared.Mode.{Mode}
+use Rattle.enc_drivers.specs.declared.unit.Mode.{Mode}
 use Rattle.enc_drivers.specs.Units.{scalar_at}
-use Rattle.enc_drivers.specs.Utf8.{utf8_unit}
+use Rattle.enc_drivers.specs.Codes.Utf8.{utf8_unit}
 
 -- what is written of a scalar is read as it, whatever follows
 pub utf8_round_trip : (mode : Mode) (c : ℕ) (rest : List ℕ) → IsScalar c → utf8_unit mode (encode_utf8 c ++ rest) ≡ scalar_at mode c (length (encode_utf8 c))

@@ -8,12 +8,12 @@ use Rattle.std.proofs.lemmas.List.{append_assoc, append-nil, get_or_append_left,
 use Rattle.std.proofs.lemmas.List.Elements.{All-nil, All-cons, All-append, All-take}
 use Rattle.enc_handles.specs.Utf8.{byte_in, begins_three, begins_four, sequence_len, sequence_scalar}
 use Rattle.enc_handles.proofs.Sequences.{sequence-Decodes, encode-sequence}
-use Rattle.enc_drivers.specs.declared.Item.{Item}
-use Rattle.enc_drivers.specs.declared.Item.TheVariants.{One, Two, Malformed, Silent}
-use Rattle.enc_drivers.specs.declared.Mode.{Mode}
+use Rattle.enc_drivers.specs.declared.unit.Item.{Item}
+use Rattle.enc_drivers.specs.declared.unit.Item.TheVariants.{One, Two, Malformed, Silent}
+use Rattle.enc_drivers.specs.declared.unit.Mode.{Mode}
 use Rattle.enc_drivers.specs.Units.{scalar_at, malformed_at, AreBytes}
 use Rattle.enc_drivers.specs.Steps.{IsUndecided}
-use Rattle.enc_drivers.specs.Utf8.{malformed_len, utf8_unit}
+use Rattle.enc_drivers.specs.Codes.Utf8.{malformed_len, utf8_unit}
 use Rattle.enc_drivers.specs.Lemmas.Utf8Law.{byte_at}
 use Rattle.enc_drivers.proofs.Utf8Malformed.{malformed_law}
 use Rattle.enc_drivers.proofs.Utf8RoundTrip.{utf8_round_trip}

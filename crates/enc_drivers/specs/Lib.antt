@@ -1,10 +1,11 @@
+pub mod Bulk
+pub mod Codes
+pub mod Decodes
 pub mod Driver
 pub mod Front
 pub mod Lemmas
+pub mod Lookup
 pub mod Resume
-pub mod SingleByte
 pub mod Steps
 pub mod Turn
 pub mod Units
-pub mod Utf16
-pub mod Utf8

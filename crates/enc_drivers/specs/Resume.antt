@@ -1,12 +1,12 @@
 -- The resume equation: what a decode call has written and what is still to come are the units of all bytes. The standard's
 -- decoders take a stream byte by byte and keep their state (Encoding Standard, section 4.1); this says the same of any pieces.
-use Rattle.std.specs.Prelude.{◌≡◌, ℕ, ◌≤◌, ◌⊎◌, Bool, true, List, [], ◌∷◌, ◌++◌, length, take, drop}
-use Rattle.std.specs.List.{All, flat_map}
+use Rattle.std.specs.Prelude.{◌≡◌, ℕ, ◌+◌, ◌-◌, ◌≤◌, ◌⊎◌, Bool, true, List, [], ◌∷◌, ◌++◌, length, take, drop}
+use Rattle.std.specs.List.{All, flat_map, sum_by}
 use Rattle.enc_handles.specs.declared.results.DecoderResult.{DecoderResult}
 use Rattle.enc_handles.specs.declared.results.DecoderResult.TheVariants as result
-use Rattle.enc_drivers.specs.declared.Item.{Item}
-use Rattle.enc_drivers.specs.declared.Item.TheVariants as item
-use Rattle.enc_drivers.specs.declared.Mode.{Mode}
+use Rattle.enc_drivers.specs.declared.unit.Item.{Item}
+use Rattle.enc_drivers.specs.declared.unit.Item.TheVariants as item
+use Rattle.enc_drivers.specs.declared.unit.Mode.{Mode}
 use Rattle.enc_drivers.specs.Steps.{MayFollow, IsUndecided}
 use Rattle.enc_drivers.specs.Units.{Code, units}
 
@@ -48,8 +48,25 @@ pub record ResumesWriting (unit : Code) (form : ℕ → List ℕ) (last : Bool) 
   pub resumes : Resumes unit last before after src read decoded malformed
   pub text : written ≡ text_in form decoded
 
+-- nothing is held, or bytes whose unit depends on what follows
+abbrev pub IsOpen : Code → Standing → Type 0
+IsOpen unit standing = (standing.held ≡ []) ⊎ IsUndecided unit standing.mode standing.held
+
 -- what may be held where the input is empty: at its end nothing, and else at most three bytes whose unit depends on what follows
 pub record MayHold (unit : Code) (last : Bool) (standing : Standing) : Type 0 where
   pub few : length standing.held ≤ 3
   pub end : last ≡ true → standing.held ≡ []
-  pub undecided : (standing.held ≡ []) ⊎ IsUndecided unit standing.mode standing.held
+  pub undecided : IsOpen unit standing
+
+-- how many bytes units have
+abbrev pub unit_bytes : List (Item × ℕ) → ℕ
+unit_bytes us = sum_by (λ u. u.1) us
+
+-- the last of the bytes that were read was needed: a driver that had not read it stood behind the units `decoded` at a front
+-- that was empty or undecided; and this front and that byte have at least `count` bytes
+pub record NeedsLast (unit : Code) (last : Bool) (before : Standing) (src : List ℕ) (read count : ℕ) : Type 0 where
+  pub front : Standing
+  pub decoded : List (Item × ℕ)
+  pub resumes : Resumes unit last before front src (read - 1) decoded []
+  pub undecided : IsOpen unit front
+  pub covers : count ≤ length front.held + 1

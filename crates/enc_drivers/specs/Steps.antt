@@ -1,6 +1,6 @@
 -- What a look at the front of bytes tells of the unit there (Encoding Standard, section 4.1: a decoder goes on to the next byte, or to the end of the stream).
 use Rattle.std.specs.Prelude.{◌≡◌, ℕ, Bool, true, false, List, [], ◌++◌}
-use Rattle.enc_drivers.specs.declared.Mode.{Mode}
+use Rattle.enc_drivers.specs.declared.unit.Mode.{Mode}
 use Rattle.enc_drivers.specs.declared.code.Step.{Step}
 use Rattle.enc_drivers.specs.declared.code.Step.TheVariants as step
 use Rattle.enc_drivers.specs.Units.{Code, UnitAt, AreBytes}

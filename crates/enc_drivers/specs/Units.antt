@@ -2,9 +2,9 @@
 use Rattle.std.specs.Prelude.{◌≡◌, ℕ, zero, suc, ◌*◌, ◌<◌, ◌≤◌, ⊤, List, [], ◌∷◌, ◌++◌, length, take, drop, encode_utf8, All}
 use Rattle.std.specs.List.{flat_map}
 use Rattle.std.specs.Char.{IsScalar}
-use Rattle.enc_drivers.specs.declared.Item.{Item}
-use Rattle.enc_drivers.specs.declared.Item.TheVariants.{One, Two, Malformed, Silent}
-use Rattle.enc_drivers.specs.declared.Mode.{Mode}
+use Rattle.enc_drivers.specs.declared.unit.Item.{Item}
+use Rattle.enc_drivers.specs.declared.unit.Item.TheVariants.{One, Two, Malformed, Silent}
+use Rattle.enc_drivers.specs.declared.unit.Mode.{Mode}
 
 -- what stands at the front of a nonempty rest of bytes: an item, how many bytes it has, and the mode of what follows
 pub record UnitAt : Type 0 where

@@ -1,13 +1,7 @@
 //! Bytes at the front of what is to be decoded.
-ghost use Rattle.std.specs.Prelude.{◌≡◌, ◌+◌, ◌<◌, ◌≤◌, ◌↔◌, ◌++◌, [], ◌∷◌, length, take, drop, slice_index, true, false, IsTrue};
-ghost use Rattle.enc_handles.specs.ByteSource.{reading};
-ghost use Rattle.enc_handles.specs.Reading.{left, after_reading};
+ghost use Rattle.std.specs.Prelude.{◌≡◌, ◌+◌, ◌<◌, ◌≤◌, ◌++◌, [], ◌∷◌, length, take, drop};
 
-use enc_handles::byte_slice::ByteSlice;
-use enc_handles::byte_source::ByteSourceOver;
-use enc_handles::space::Space;
-
-/// At most four bytes, the most that a unit has.
+// At most four bytes, the most that a unit has.
 #[derive(Clone, Copy)]
 pub(crate) struct Front {
     bytes: [u8; 4],
@@ -61,29 +55,18 @@ impl Front {
         requires { n ≤ length (front_bytes self.now) }
         ensures { front_bytes result ≡ drop n (front_bytes self.now) }
     {
-        let mut rest = Front::new();
-        for byte in &self.as_slice()[n..] {
-            rest.push(*byte);
-        }
-        rest
+        Front::of(&self.as_slice()[n..])
     }
 
-    // Reads the next byte of a source, if there is one.
-    pub(crate) fn read_from<B: ByteSlice>(&mut self, source: &mut ByteSourceOver<B>) -> bool
-        requires { length (front_bytes self.old) < 4 }
-        ensures more { IsTrue result ↔ (0 < length (left (reading source.old))) }
-        ensures read { result ≡ true → reading source.new ≡ after_reading (reading source.old) 1 }
-        ensures byte { result ≡ true → front_bytes self.new ≡ front_bytes self.old ++ slice_index (left (reading source.old)) 0 ∷ [] }
-        ensures same_source { result ≡ false → reading source.new ≡ reading source.old }
-        ensures same_front { result ≡ false → front_bytes self.new ≡ front_bytes self.old }
+    // A front of these bytes.
+    pub(crate) fn of(bytes: &[u8]) -> Front
+        requires { length bytes.now ≤ 4 }
+        ensures { front_bytes result ≡ bytes.now }
     {
-        match source.check_available() {
-            Space::Available(handle) => {
-                let (byte, _) = handle.read();
-                self.push(byte);
-                true
-            }
-            Space::Full(_) => false,
+        let mut front = Front::new();
+        for byte in bytes {
+            front.push(*byte);
         }
+        front
     }
 }

@@ -1,17 +1,33 @@
 //! Laws of units. Each function's contract is a law; it does nothing.
 
-ghost use Rattle.std.specs.Prelude.{◌≡◌, ℕ, ◌+◌, ◌*◌, ◌<◌, ◌≤◌, Bool, true, false, List, [], ◌∷◌, ◌++◌, length, drop, encode_utf8};
+ghost use Rattle.std.specs.Prelude.{◌≡◌, ℕ, ◌+◌, ◌*◌, ◌<◌, ◌≤◌, Bool, true, false, List, [], ◌∷◌, ◌++◌, length, drop, encode_utf8, ◌↔◌};
 ghost use Rattle.std.specs.Char.{IsScalar};
 ghost use Rattle.std.specs.List.{All, sum_by};
-ghost use Rattle.enc_drivers.specs.declared.Item.{Item};
-ghost use Rattle.enc_drivers.specs.declared.Mode.{Mode};
+ghost use Rattle.enc_drivers.specs.declared.code.Step.{Step};
+ghost use Rattle.enc_drivers.specs.declared.unit.Item.{Item};
+ghost use Rattle.enc_drivers.specs.declared.unit.Item.TheVariants.{Malformed};
+ghost use Rattle.enc_drivers.specs.declared.unit.JisSet.{JisSet};
+ghost use Rattle.enc_drivers.specs.declared.unit.Mode.{Mode};
 ghost use Rattle.enc_drivers.specs.Resume.{Standing, Resumes, text_in};
 ghost use Rattle.enc_drivers.specs.Steps.{MayFollow};
 ghost use Rattle.enc_drivers.specs.Units.{Code, IsCode, AreBytes, units, text, scalar_at, IsShort};
-ghost use Rattle.enc_drivers.specs.Utf8.{utf8_unit, malformed_len, IsLongestBegun};
+ghost use Rattle.enc_drivers.specs.Codes.Utf8.{utf8_unit, malformed_len, IsLongestBegun};
 ghost use Rattle.enc_handles.specs.Utf8.{sequence_len};
-ghost use Rattle.enc_drivers.specs.Utf16.{utf16_unit, scalar_bytes};
-ghost use Rattle.enc_drivers.specs.SingleByte.{windows_1252_unit, user_defined_unit, single_byte_unit, Places, FindsScalars, HasNoAstral};
+ghost use Rattle.enc_drivers.specs.Codes.Utf16.{utf16_unit, scalar_bytes};
+ghost use Rattle.enc_drivers.specs.Lookup.{Places, FindsScalars, HasNoAstral};
+ghost use Rattle.enc_drivers.specs.Codes.Windows1252.{windows_1252_unit};
+ghost use Rattle.enc_drivers.specs.Codes.UserDefined.{user_defined_unit};
+ghost use Rattle.enc_drivers.specs.Codes.SingleByte.{single_byte_unit};
+ghost use Rattle.enc_drivers.specs.Codes.Pairs.{item_found};
+ghost use Rattle.enc_drivers.specs.Codes.Big5.{is_big5_lead, is_big5_trail, big5_place, big5_at, big5_bytes, big5_unit};
+ghost use Rattle.enc_drivers.specs.Codes.EucJp.{euc_jp_bytes, euc_jp_unit};
+ghost use Rattle.enc_drivers.specs.Codes.EucKr.{is_euc_kr_lead, is_euc_kr_trail, euc_kr_place, euc_kr_bytes, euc_kr_unit};
+ghost use Rattle.enc_drivers.specs.Codes.Gb18030.{gb18030_bytes, ranges_bytes, gb18030_unit};
+ghost use Rattle.enc_drivers.specs.Codes.Iso2022Jp.{set_of, iso_2022_jp_bytes, iso_2022_jp_unit};
+ghost use Rattle.enc_drivers.specs.Codes.ShiftJis.{is_shift_jis_lead, is_shift_jis_trail, shift_jis_place, shift_jis_at, shift_jis_bytes, shift_jis_unit};
+
+use crate::code::Step;
+use crate::{Item, JisSet, Mode};
 
 /// A unit of UTF-8 has one to four bytes, its text at most three bytes for each, and the first four bytes
 /// of a rest decide it.
@@ -42,6 +58,107 @@ pub fn x_user_defined()
 /// The same of an encoding of one byte a scalar, over an index of scalars up to U+FFFF.
 pub fn single_byte()
     ensures { (places : Places) → FindsScalars places → HasNoAstral places → IsCode (single_byte_unit places) }
+{}
+
+/// The same of EUC-JP, over two indexes.
+pub fn euc_jp()
+    ensures { (jis0208 jis0212 : Places) → FindsScalars jis0208 → FindsScalars jis0212 → IsCode (euc_jp_unit jis0208 jis0212) }
+{}
+
+/// The same of gb18030 and GBK, over an index and ranges.
+pub fn gb18030()
+    ensures { (index ranges : Places) → FindsScalars index → FindsScalars ranges → IsCode (gb18030_unit index ranges) }
+{}
+
+/// The same of ISO-2022-JP in each mode, over an index.
+pub fn iso_2022_jp()
+    ensures { (jis0208 : Places) → FindsScalars jis0208 → IsCode (iso_2022_jp_unit jis0208) }
+{}
+
+/// The same of Big5, over an index of scalars.
+pub fn big5()
+    ensures { (places : Places) → FindsScalars places → IsCode (big5_unit places) }
+{}
+
+/// The same of EUC-KR, over an index of scalars.
+pub fn euc_kr()
+    ensures { (places : Places) → FindsScalars places → IsCode (euc_kr_unit places) }
+{}
+
+/// The same of Shift_JIS, over an index of scalars.
+pub fn shift_jis()
+    ensures { (places : Places) → FindsScalars places → IsCode (shift_jis_unit places) }
+{}
+
+/// In Big5, EUC-KR and Shift_JIS an ASCII byte is a unit of itself, whatever follows.
+pub fn ascii_in_two_byte_codes()
+    ensures big5 { (places : Places) (mode : Mode) (byte : ℕ) (rest : List ℕ) → byte < 0x80 →
+        big5_unit places mode (byte ∷ rest) ≡ scalar_at mode byte 1 }
+    ensures euc_kr { (places : Places) (mode : Mode) (byte : ℕ) (rest : List ℕ) → byte < 0x80 →
+        euc_kr_unit places mode (byte ∷ rest) ≡ scalar_at mode byte 1 }
+    ensures shift_jis { (places : Places) (mode : Mode) (byte : ℕ) (rest : List ℕ) → byte < 0x80 →
+        shift_jis_unit places mode (byte ∷ rest) ≡ scalar_at mode byte 1 }
+{}
+
+/// In Big5 what stands at a place is read from the two bytes of this place, and each lead and trail are the bytes of
+/// their place.
+pub fn places_of_big5()
+    ensures read_back { (places : Places) (mode : Mode) (place : ℕ) (rest : List ℕ) → place < 19782 →
+        let item = big5_at places place in ¬ (item ≡ Malformed) →
+        big5_unit places mode (big5_bytes place ++ rest) ≡ record { item = item; len = 2; next = mode } }
+    ensures unique { (lead trail : ℕ) → is_big5_lead lead ≡ true → is_big5_trail trail ≡ true →
+        big5_bytes (big5_place lead trail) ≡ lead ∷ trail ∷ [] }
+{}
+
+/// In EUC-KR what stands at a place is read from the two bytes of this place, and each lead and trail are the bytes of
+/// their place.
+pub fn places_of_euc_kr()
+    ensures read_back { (places : Places) (mode : Mode) (place : ℕ) (rest : List ℕ) → place < 23940 →
+        let item = item_found (places place) in ¬ (item ≡ Malformed) →
+        euc_kr_unit places mode (euc_kr_bytes place ++ rest) ≡ record { item = item; len = 2; next = mode } }
+    ensures unique { (lead trail : ℕ) → is_euc_kr_lead lead ≡ true → is_euc_kr_trail trail ≡ true →
+        euc_kr_bytes (euc_kr_place lead trail) ≡ lead ∷ trail ∷ [] }
+{}
+
+/// In EUC-JP what stands at a place of either index is read from the bytes of this place, those of jis0212 behind 8F.
+pub fn places_of_euc_jp()
+    ensures read_back { (jis0208 jis0212 : Places) (mode : Mode) (place scalar : ℕ) (rest : List ℕ) → place < 8836 →
+        jis0208 place ≡ Some scalar →
+        euc_jp_unit jis0208 jis0212 mode (euc_jp_bytes place ++ rest) ≡ scalar_at mode scalar 2 }
+    ensures read_back_of_three { (jis0208 jis0212 : Places) (mode : Mode) (place scalar : ℕ) (rest : List ℕ) → place < 8836 →
+        jis0212 place ≡ Some scalar →
+        euc_jp_unit jis0208 jis0212 mode (0x8F ∷ (euc_jp_bytes place ++ rest)) ≡ scalar_at mode scalar 3 }
+{}
+
+/// In gb18030 what stands at a place of the index is read from the two bytes of this place, and what stands at a place of
+/// the ranges from its four.
+pub fn places_of_gb18030()
+    ensures read_back { (index ranges : Places) (mode : Mode) (place scalar : ℕ) (rest : List ℕ) → place < 23940 →
+        index place ≡ Some scalar →
+        gb18030_unit index ranges mode (gb18030_bytes place ++ rest) ≡ scalar_at mode scalar 2 }
+    ensures read_back_of_four { (index ranges : Places) (mode : Mode) (place scalar : ℕ) (rest : List ℕ) → place < 1587600 →
+        ranges place ≡ Some scalar →
+        gb18030_unit index ranges mode (ranges_bytes place ++ rest) ≡ scalar_at mode scalar 4 }
+{}
+
+/// In ISO-2022-JP what stands at a place is read from the two bytes of this place in a mode of jis0208, and the mode behind
+/// a unit is never `Plain`.
+pub fn places_of_iso_2022_jp()
+    ensures read_back { (jis0208 : Places) (mode : Mode) (place scalar : ℕ) (rest : List ℕ) → place < 8836 →
+        set_of mode ≡ JisSet.Jis0208 → jis0208 place ≡ Some scalar →
+        iso_2022_jp_unit jis0208 mode (iso_2022_jp_bytes place ++ rest) ≡ scalar_at (Mode.Within JisSet.Jis0208) scalar 2 }
+    ensures next { (jis0208 : Places) (mode : Mode) (rest : List ℕ) →
+        ¬ ((iso_2022_jp_unit jis0208 mode rest).next ≡ Mode.Plain) }
+{}
+
+/// In Shift_JIS what stands at a place is read from the two bytes of this place, and each lead and trail are the bytes of
+/// their place.
+pub fn places_of_shift_jis()
+    ensures read_back { (places : Places) (mode : Mode) (place : ℕ) (rest : List ℕ) → place < 11280 →
+        let item = shift_jis_at places place in ¬ (item ≡ Malformed) →
+        shift_jis_unit places mode (shift_jis_bytes place ++ rest) ≡ record { item = item; len = 2; next = mode } }
+    ensures unique { (lead trail : ℕ) → is_shift_jis_lead lead ≡ true → is_shift_jis_trail trail ≡ true →
+        shift_jis_bytes (shift_jis_place lead trail) ≡ lead ∷ trail ∷ [] }
 {}
 
 /// The units of bytes are the unit at their front, and then the units of what follows it, in the next mode.
@@ -110,4 +227,20 @@ pub fn joined_calls()
         AreBytes next → (first ≡ true → (last ≡ true) × (next ≡ [])) → (more : List ℕ) → MayFollow last more →
         units unit start.mode (start.held ++ (src ++ (next ++ more)))
         ≡ (decoded ++ malformed) ++ ((decoded_then ++ malformed_then) ++ units unit end.mode (end.held ++ (drop read_then (drop read src ++ next) ++ more))) }
+{}
+
+/// Two values of a type of this crate are equal by `==` exactly where they are the same.
+pub fn equality()
+    ensures items { (x y : Item) → (⟦<Item as PartialEq>⟧.eq x y ≡ true) ↔ (x ≡ y) }
+    ensures sets { (x y : JisSet) → (⟦<JisSet as PartialEq>⟧.eq x y ≡ true) ↔ (x ≡ y) }
+    ensures modes { (x y : Mode) → (⟦<Mode as PartialEq>⟧.eq x y ≡ true) ↔ (x ≡ y) }
+    ensures steps { (x y : Step) → (⟦<Step as PartialEq>⟧.eq x y ≡ true) ↔ (x ≡ y) }
+{}
+
+/// A clone of a value of a type of this crate is that value.
+pub fn clones()
+    ensures items { (x y : Item) → ⟦<Item as Clone>⟧.is_clone x y → y ≡ x }
+    ensures sets { (x y : JisSet) → ⟦<JisSet as Clone>⟧.is_clone x y → y ≡ x }
+    ensures modes { (x y : Mode) → ⟦<Mode as Clone>⟧.is_clone x y → y ≡ x }
+    ensures steps { (x y : Step) → ⟦<Step as Clone>⟧.is_clone x y → y ≡ x }
 {}

@@ -1,7 +1,7 @@
 //! Indexes of scalars by place.
 
 ghost use Rattle.std.specs.Prelude.{◌≡◌, ℕ};
-ghost use Rattle.enc_drivers.specs.SingleByte.{Places, FindsScalars};
+ghost use Rattle.enc_drivers.specs.Lookup.{Places, FindsScalars};
 
 /// An index of scalars by place (Encoding Standard, section 5).
 pub trait Lookup {

@@ -1,13 +1,13 @@
 //! Answers of `step` that several codes give.
 
 ghost use Rattle.std.specs.Prelude.{◌≡◌, if◌then◌else◌};
-ghost use Rattle.enc_drivers.specs.declared.Item.TheVariants.{Malformed};
+ghost use Rattle.enc_drivers.specs.declared.unit.Item.TheVariants.{Malformed};
 ghost use Rattle.enc_drivers.specs.declared.code.Step.TheVariants as step;
 
 use crate::code::Step;
 use crate::{Item, Mode};
 
-/// So many malformed bytes.
+// So many malformed bytes.
 pub(crate) fn malformed(mode: Mode, length: u8) -> Step
     ensures { result ≡ step.Unit Malformed length mode }
 {
@@ -18,7 +18,7 @@ pub(crate) fn malformed(mode: Mode, length: u8) -> Step
     }
 }
 
-/// What bytes tell that are malformed at the end, and may go on before it.
+// What bytes tell that are malformed at the end, and may go on before it.
 pub(crate) fn cut(mode: Mode, length: u8, last: bool) -> Step
     ensures { result ≡ (if last then step.Unit Malformed length mode else step.More) }
 {

@@ -5,9 +5,12 @@ use Rattle.std.specs.List.{list_all}
 use Rattle.std.specs.Char.{IsScalar}
 use Rattle.std.proofs.lemmas.Bool.{and_parts}
 use Rattle.std.proofs.lemmas.List.Elements.{All-head}
-use Rattle.enc_drivers.specs.declared.Mode.{Mode}
+use Rattle.enc_drivers.specs.declared.unit.Mode.{Mode}
 use Rattle.enc_drivers.specs.Units.{scalar_at, IsCode, IsUnitOf, AreBytes, HasScalars, item_text}
-use Rattle.enc_drivers.specs.SingleByte.{windows_1252_table, windows_1252_scalar, user_defined_scalar, windows_1252_unit, user_defined_unit, Places, FindsScalars, HasNoAstral, single_byte_item, single_byte_unit}
+use Rattle.enc_drivers.specs.Lookup.{Places, FindsScalars, HasNoAstral}
+use Rattle.enc_drivers.specs.Codes.Windows1252.{windows_1252_table, windows_1252_scalar, windows_1252_unit}
+use Rattle.enc_drivers.specs.Codes.UserDefined.{user_defined_scalar, user_defined_unit}
+use Rattle.enc_drivers.specs.Codes.SingleByte.{single_byte_item, single_byte_unit}
 use Rattle.enc_drivers.specs.Lemmas.Scalars.{scalar_low, scalar_high, encode_three}
 
 -- each entry of a table, by a test that computes

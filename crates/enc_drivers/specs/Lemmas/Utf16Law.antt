@@ -6,9 +6,9 @@ use Rattle.std.proofs.lemmas.Bool.{and_parts}
 use Rattle.std.proofs.lemmas.Bool.Decides.{nat_tests}
 use Rattle.std.proofs.lemmas.List.Elements.{All-get_or}
 use Rattle.enc_handles.specs.Utf16.{code_unit, is_lead, is_trail, pair_scalar}
-use Rattle.enc_drivers.specs.declared.Mode.{Mode}
+use Rattle.enc_drivers.specs.declared.unit.Mode.{Mode}
 use Rattle.enc_drivers.specs.Units.{scalar_at, malformed_at, IsCode, IsUnitOf, AreBytes}
-use Rattle.enc_drivers.specs.Utf16.{single_unit, utf16_unit}
+use Rattle.enc_drivers.specs.Codes.Utf16.{single_unit, utf16_unit}
 use Rattle.enc_drivers.specs.Lemmas.Scalars.{scalar_high, encode_four}
 
 malformed_unit : (mode : Mode) (rest : List ℕ) (n : ℕ) → 1 ≤ n → n ≤ 4 → n ≤ length rest → IsUnitOf rest (malformed_at mode n)

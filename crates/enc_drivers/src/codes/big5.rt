@@ -1,0 +1,92 @@
+//! Big5 (Encoding Standard, section 11.1.1, Big5 decoder).
+
+ghost use Rattle.std.specs.Prelude.{◌≡◌, ◌<◌, ◌≤◌, ◌||◌, true};
+ghost use Rattle.enc_drivers.specs.Codes.Big5.{is_big5_lead, is_big5_trail, big5_place, big5_at, big5_pairs, big5_unit};
+
+use crate::code::{Bulk, Code, Step};
+use crate::codes::pairs::{self, PairCode};
+use crate::lookup::Lookup;
+use crate::{Item, Mode};
+
+#[cfg(test)]
+mod tests;
+
+/// The code of Big5 over its index.
+#[derive(Drop)]
+pub struct Big5<'t, L: Lookup> {
+    index: &'t L,
+}
+
+impl<'t, L: Lookup> Big5<'t, L> {
+    /// The code. The four places that stand for two scalars (1133, 1135, 1164 and 1166) are never looked up.
+    pub fn new(index: &'t L) -> Big5<'t, L>
+        ensures { ⟦<Big5<'t, L> as Code>⟧.unit result ≡ big5_unit (L.places index.now) }
+    {
+        Big5 { index }
+    }
+}
+
+impl<'t, L: Lookup> Code for Big5<'t, L> {
+    ghost use Rattle.enc_drivers.specs.Lemmas.Big5Law.{big5_law};
+
+    ghost unit = { λ code. big5_unit (L.places code.index.now) };
+
+    fn step(&self, mode: Mode, front: &[u8], last: bool) -> Step {
+        pairs::step(self, mode, front, last)
+    }
+
+    fn bulk(&self) -> Bulk {
+        Bulk::Ascii
+    }
+
+    ghost laws = { λ code. big5_law (L.places code.index.now) (L.scalars code.index.now) };
+}
+
+impl<'t, L: Lookup> PairCode for Big5<'t, L> {
+    ghost pairs = { λ code. big5_pairs (L.places code.index.now) };
+
+    fn is_lead(&self, byte: u8) -> bool {
+        pairs::is_between(0x81, 0xFE, byte)
+    }
+
+    fn alone(&self, byte: u8) -> Item {
+        pairs::ascii_alone(byte)
+    }
+
+    fn both(&self, lead: u8, second: u8) -> Item {
+        if !is_trail(second) {
+            return Item::Malformed;
+        }
+        at(self.index, place(lead, second))
+    }
+}
+
+fn is_trail(byte: u8) -> bool
+    ensures { result ≡ is_big5_trail byte }
+{
+    pairs::is_between(0x40, 0x7E, byte) || pairs::is_between(0xA1, 0xFE, byte)
+}
+
+// Where a lead and a trail stand in the index.
+fn place(lead: u8, trail: u8) -> u32
+    requires lead { is_big5_lead lead ≡ true }
+    requires trail { is_big5_trail trail ≡ true }
+    ensures { result ≡ big5_place lead trail }
+{
+    let offset = if trail < 0x7F { 0x40 } else { 0x62 };
+    u32::from(lead - 0x81) * 157 + u32::from(trail - offset)
+}
+
+// What stands at a place.
+#[tactic(auto, unfolding(crate::specs::Codes::Big5::big5_at))]
+fn at<L: Lookup>(index: &L, place: u32) -> Item
+    ensures { result ≡ big5_at (L.places index.now) place }
+{
+    match place {
+        1133 => Item::Two('\u{CA}', '\u{304}'),
+        1135 => Item::Two('\u{CA}', '\u{30C}'),
+        1164 => Item::Two('\u{EA}', '\u{304}'),
+        1166 => Item::Two('\u{EA}', '\u{30C}'),
+        _ => pairs::item_found(index.at(place)),
+    }
+}

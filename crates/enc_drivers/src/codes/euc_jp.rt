@@ -1,0 +1,108 @@
+//! EUC-JP (Encoding Standard, section 12.1.1, EUC-JP decoder).
+
+ghost use Rattle.std.specs.Prelude.{◌≡◌, ◌<◌, ◌≤◌, ◌&&◌, ◌==◌};
+ghost use Rattle.enc_drivers.specs.Codes.EucJp.{in_row, is_euc_jp_lead, row_scalar, euc_jp_scalar, euc_jp_unit};
+
+use crate::Mode;
+use crate::code::{Bulk, Code, Step};
+use crate::codes::sequence::{one, sequence};
+use crate::lookup::Lookup;
+use crate::steps::{cut, malformed};
+
+#[cfg(test)]
+mod tests;
+
+/// The code of EUC-JP over the indexes jis0208 and jis0212.
+#[derive(Drop)]
+pub struct EucJp<'t, L: Lookup> {
+    jis0208: &'t L,
+    jis0212: &'t L,
+}
+
+impl<'t, L: Lookup> EucJp<'t, L> {
+    /// The code over two indexes.
+    pub fn new(jis0208: &'t L, jis0212: &'t L) -> EucJp<'t, L>
+        ensures { ⟦<EucJp<'t, L> as Code>⟧.unit result
+            ≡ euc_jp_unit (L.places jis0208.now) (L.places jis0212.now) }
+    {
+        EucJp { jis0208, jis0212 }
+    }
+}
+
+impl<'t, L: Lookup> Code for EucJp<'t, L> {
+    ghost use Rattle.enc_drivers.specs.Lemmas.EucJpLaw.{euc_jp_law};
+
+    ghost unit = { λ code. euc_jp_unit (L.places code.jis0208.now) (L.places code.jis0212.now) };
+
+    fn step(&self, mode: Mode, front: &[u8], last: bool) -> Step {
+        let lead = front[0];
+        if lead < 0x80 {
+            return one(mode, char::from(lead), 1);
+        }
+        if !is_lead(lead) {
+            return malformed(mode, 1);
+        }
+        if front.len() < 2 {
+            return cut(mode, 1, last);
+        }
+        let second = front[1];
+        if !names_jis0212(lead, second) {
+            return sequence(mode, two_byte_scalar(self.jis0208, lead, second), 2, second);
+        }
+        if front.len() < 3 {
+            return cut(mode, 2, last);
+        }
+        let third = front[2];
+        sequence(mode, row_scalar(self.jis0212, second, third), 3, third)
+    }
+
+    fn bulk(&self) -> Bulk {
+        Bulk::Ascii
+    }
+
+    ghost laws = { λ code. euc_jp_law (L.places code.jis0208.now) (L.places code.jis0212.now)
+        (L.scalars code.jis0208.now) (L.scalars code.jis0212.now) };
+}
+
+// Whether a byte begins a sequence.
+fn is_lead(byte: u8) -> bool
+    ensures { result ≡ is_euc_jp_lead byte }
+{
+    byte == 0x8E || byte == 0x8F || is_in_row(byte)
+}
+
+// Whether a byte is one of a scalar's in an index.
+fn is_in_row(byte: u8) -> bool
+    ensures { result ≡ in_row byte }
+{
+    0xA1 <= byte && byte <= 0xFE
+}
+
+// Whether two bytes begin a sequence of three.
+fn names_jis0212(lead: u8, second: u8) -> bool
+    ensures { result ≡ (lead == 0x8F && in_row second) }
+{
+    lead == 0x8F && is_in_row(second)
+}
+
+// The scalar of a sequence of two bytes.
+#[tactic(auto, unfolding(crate::specs::Codes::EucJp::euc_jp_scalar))]
+fn two_byte_scalar<L: Lookup>(jis0208: &L, lead: u8, second: u8) -> Option<char>
+    ensures { result ≡ euc_jp_scalar (L.places jis0208.now) lead second }
+{
+    if lead == 0x8E && 0xA1 <= second && second <= 0xDF {
+        return Some(char::from_u32(0xFF61 + u32::from(second - 0xA1)).unwrap());
+    }
+    row_scalar(jis0208, lead, second)
+}
+
+// The scalar of two bytes of a row in an index.
+#[tactic(auto, unfolding(crate::specs::Codes::EucJp::row_scalar))]
+fn row_scalar<L: Lookup>(index: &L, first: u8, second: u8) -> Option<char>
+    ensures { result ≡ row_scalar (L.places index.now) first second }
+{
+    if !is_in_row(first) || !is_in_row(second) {
+        return None;
+    }
+    index.at(u32::from(first - 0xA1) * 94 + u32::from(second - 0xA1))
+}

@@ -1,0 +1,77 @@
+//! EUC-KR (Encoding Standard, section 13.1.1, EUC-KR decoder).
+
+ghost use Rattle.std.specs.Prelude.{◌≡◌, ◌<◌, ◌≤◌, true};
+ghost use Rattle.enc_drivers.specs.Codes.EucKr.{is_euc_kr_lead, is_euc_kr_trail, euc_kr_place, euc_kr_pairs, euc_kr_unit};
+
+use crate::code::{Bulk, Code, Step};
+use crate::codes::pairs::{self, PairCode};
+use crate::lookup::Lookup;
+use crate::{Item, Mode};
+
+#[cfg(test)]
+mod tests;
+
+/// The code of EUC-KR over its index.
+#[derive(Drop)]
+pub struct EucKr<'t, L: Lookup> {
+    index: &'t L,
+}
+
+impl<'t, L: Lookup> EucKr<'t, L> {
+    /// The code.
+    pub fn new(index: &'t L) -> EucKr<'t, L>
+        ensures { ⟦<EucKr<'t, L> as Code>⟧.unit result ≡ euc_kr_unit (L.places index.now) }
+    {
+        EucKr { index }
+    }
+}
+
+impl<'t, L: Lookup> Code for EucKr<'t, L> {
+    ghost use Rattle.enc_drivers.specs.Lemmas.EucKrLaw.{euc_kr_law};
+
+    ghost unit = { λ code. euc_kr_unit (L.places code.index.now) };
+
+    fn step(&self, mode: Mode, front: &[u8], last: bool) -> Step {
+        pairs::step(self, mode, front, last)
+    }
+
+    fn bulk(&self) -> Bulk {
+        Bulk::Ascii
+    }
+
+    ghost laws = { λ code. euc_kr_law (L.places code.index.now) (L.scalars code.index.now) };
+}
+
+impl<'t, L: Lookup> PairCode for EucKr<'t, L> {
+    ghost pairs = { λ code. euc_kr_pairs (L.places code.index.now) };
+
+    fn is_lead(&self, byte: u8) -> bool {
+        pairs::is_between(0x81, 0xFE, byte)
+    }
+
+    fn alone(&self, byte: u8) -> Item {
+        pairs::ascii_alone(byte)
+    }
+
+    fn both(&self, lead: u8, second: u8) -> Item {
+        if !is_trail(second) {
+            return Item::Malformed;
+        }
+        pairs::item_found(self.index.at(place(lead, second)))
+    }
+}
+
+fn is_trail(byte: u8) -> bool
+    ensures { result ≡ is_euc_kr_trail byte }
+{
+    pairs::is_between(0x41, 0xFE, byte)
+}
+
+// Where a lead and a trail stand in the index.
+fn place(lead: u8, trail: u8) -> u32
+    requires lead { is_euc_kr_lead lead ≡ true }
+    requires trail { is_euc_kr_trail trail ≡ true }
+    ensures { result ≡ euc_kr_place lead trail }
+{
+    u32::from(lead - 0x81) * 190 + u32::from(trail - 0x41)
+}

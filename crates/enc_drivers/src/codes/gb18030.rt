@@ -1,0 +1,137 @@
+//! gb18030, and GBK, which decodes alike (Encoding Standard, section 10.2.1, gb18030 decoder).
+
+ghost use Rattle.std.specs.Prelude.{◌≡◌, ◌<◌, ◌≤◌, true, length, slice_index};
+ghost use Rattle.enc_drivers.specs.Steps.{Steps};
+ghost use Rattle.enc_drivers.specs.Codes.Gb18030.{is_gb18030_lead, is_gb18030_digit, is_gb18030_trail, gb18030_scalar, ranges_place, gb18030_unit};
+
+use crate::Mode;
+use crate::code::{Bulk, Code, Step};
+use crate::codes::sequence::{one, sequence, whole};
+use crate::lookup::Lookup;
+use crate::steps::{cut, malformed};
+
+#[cfg(test)]
+mod tests;
+
+/// The code of gb18030 or of GBK, over the index gb18030 and its ranges.
+#[derive(Drop)]
+pub struct Gb18030<'t, L: Lookup, R: Lookup> {
+    index: &'t L,
+    ranges: &'t R,
+    gbk: bool,
+}
+
+impl<'t, L: Lookup, R: Lookup> Gb18030<'t, L, R> {
+    /// The code over an index for sequences of two bytes and the range lookup for sequences of four, whose places are
+    /// 0 to 1587599. With `gbk` it encodes as GBK; both decode alike.
+    pub fn new(index: &'t L, ranges: &'t R, gbk: bool) -> Gb18030<'t, L, R>
+        ensures { ⟦<Gb18030<'t, L, R> as Code>⟧.unit result
+            ≡ gb18030_unit (L.places index.now) (R.places ranges.now) }
+    {
+        Gb18030 { index, ranges, gbk }
+    }
+
+    // What a front tells that begins with the first two bytes of a sequence of four.
+    fn four_byte_step(&self, mode: Mode, front: &[u8], last: bool) -> Step
+        requires two { 2 ≤ length front.now }
+        requires lead { is_gb18030_lead (slice_index front.now 0) ≡ true }
+        requires digit { is_gb18030_digit (slice_index front.now 1) ≡ true }
+        ensures { Steps (gb18030_unit (L.places self.now.index.now) (R.places self.now.ranges.now)) mode front.now last result }
+    {
+        if front.len() < 3 {
+            return cut(mode, 2, last);
+        }
+        if !is_lead(front[2]) {
+            return malformed(mode, 1); // the second byte is read again, and the third
+        }
+        if front.len() < 4 {
+            return cut(mode, 3, last);
+        }
+        if !is_digit(front[3]) {
+            return malformed(mode, 1); // the same, and the fourth
+        }
+        let place = ranges_place(front[0], front[1], front[2], front[3]);
+        whole(mode, self.ranges.at(place), 4)
+    }
+}
+
+impl<'t, L: Lookup, R: Lookup> Code for Gb18030<'t, L, R> {
+    ghost use Rattle.enc_drivers.specs.Lemmas.Gb18030Law.{gb18030_law};
+
+    ghost unit = { λ code. gb18030_unit (L.places code.index.now) (R.places code.ranges.now) };
+
+    fn step(&self, mode: Mode, front: &[u8], last: bool) -> Step {
+        let first = front[0];
+        if first < 0x80 {
+            return one(mode, char::from(first), 1);
+        }
+        if first == 0x80 {
+            return one(mode, '\u{20AC}', 1);
+        }
+        if !is_lead(first) {
+            return malformed(mode, 1);
+        }
+        if front.len() < 2 {
+            return cut(mode, 1, last);
+        }
+        let second = front[1];
+        if is_digit(second) {
+            return self.four_byte_step(mode, front, last);
+        }
+        sequence(mode, two_byte_scalar(self.index, first, second), 2, second)
+    }
+
+    fn bulk(&self) -> Bulk {
+        Bulk::Ascii
+    }
+
+    ghost laws = { λ code. gb18030_law (L.places code.index.now) (R.places code.ranges.now)
+        (L.scalars code.index.now) (R.scalars code.ranges.now) };
+}
+
+// Whether a byte stands first of two or four, or third of four.
+fn is_lead(byte: u8) -> bool
+    ensures { result ≡ is_gb18030_lead byte }
+{
+    0x81 <= byte && byte <= 0xFE
+}
+
+// Whether a byte stands second or fourth of four.
+fn is_digit(byte: u8) -> bool
+    ensures { result ≡ is_gb18030_digit byte }
+{
+    0x30 <= byte && byte <= 0x39
+}
+
+// Whether a byte stands second of two.
+fn is_trail(byte: u8) -> bool
+    ensures { result ≡ is_gb18030_trail byte }
+{
+    0x40 <= byte && byte <= 0x7E || 0x80 <= byte && byte <= 0xFE
+}
+
+// The scalar of a sequence of two bytes.
+#[tactic(auto, unfolding(crate::specs::Codes::Gb18030::gb18030_scalar))]
+fn two_byte_scalar<L: Lookup>(index: &L, first: u8, second: u8) -> Option<char>
+    requires { 0x81 ≤ first }
+    ensures { result ≡ gb18030_scalar (L.places index.now) first second }
+{
+    if !is_trail(second) {
+        return None;
+    }
+    let offset = if second < 0x7F { 0x40 } else { 0x41 };
+    index.at(u32::from(first - 0x81) * 190 + u32::from(second - offset))
+}
+
+// The place of a sequence of four bytes for the range lookup.
+#[tactic(auto, unfolding(crate::specs::Codes::Gb18030::ranges_place))]
+fn ranges_place(first: u8, second: u8, third: u8, fourth: u8) -> u32
+    requires first { is_gb18030_lead first ≡ true }
+    requires second { is_gb18030_digit second ≡ true }
+    requires third { is_gb18030_lead third ≡ true }
+    requires fourth { is_gb18030_digit fourth ≡ true }
+    ensures { result ≡ ranges_place first second third fourth }
+{
+    let high = u32::from(first - 0x81) * 12600 + u32::from(second - 0x30) * 1260;
+    high + u32::from(third - 0x81) * 10 + u32::from(fourth - 0x30)
+}

@@ -1,0 +1,106 @@
+//! What the codes of a lead and a byte behind it share.
+
+ghost use Rattle.std.specs.Prelude.{◌≡◌, ◌<◌, ◌≤◌, ◌&&◌, Option, length, nat_lt, if◌then◌else◌};
+ghost use Rattle.enc_drivers.specs.declared.code.Step.TheVariants as step;
+ghost use Rattle.enc_drivers.specs.Codes.Pairs.{ascii_alone, is_between, item_found, both_len, pairs_unit};
+ghost use Rattle.enc_drivers.specs.Steps.{Steps};
+
+use crate::code::Step;
+use crate::steps::cut;
+use crate::{Item, Mode};
+
+// What a code of a lead and a byte behind it says of its bytes.
+pub(crate) trait PairCode {
+    ghost use Rattle.enc_drivers.specs.Codes.Pairs.{Pairs};
+    ghost use Rattle.std.specs.Prelude.{true};
+
+    ghost pairs: { Self → Pairs };
+
+    fn is_lead(&self, byte: u8) -> bool
+        ensures { result ≡ (pairs self.now).is_lead byte };
+
+    // What a byte stands for that is no lead.
+    fn alone(&self, byte: u8) -> Item
+        ensures { result ≡ (pairs self.now).alone byte };
+
+    // What a lead stands for with the byte behind it.
+    fn both(&self, lead: u8, second: u8) -> Item
+        requires { (pairs self.now).is_lead lead ≡ true }
+        ensures { result ≡ (pairs self.now).both lead second };
+}
+
+// What a front tells of the unit there.
+pub(crate) fn step<P: PairCode>(pairs: &P, mode: Mode, front: &[u8], last: bool) -> Step
+    requires some { 0 < length front.now }
+    requires few { length front.now ≤ 4 }
+    ensures { Steps (pairs_unit (P.pairs pairs.now)) mode front.now last result }
+{
+    let first = front[0];
+    if !pairs.is_lead(first) {
+        return alone(mode, pairs.alone(first));
+    }
+    if front.len() < 2 {
+        return cut(mode, 1, last);
+    }
+    let second = front[1];
+    both(mode, pairs.both(first, second), second)
+}
+
+// One byte that stands for an item.
+fn alone(mode: Mode, item: Item) -> Step
+    ensures { result ≡ step.Unit item 1 mode }
+{
+    Step::Unit {
+        item,
+        length: 1,
+        next: mode,
+    }
+}
+
+// Two bytes that stand for an item, or fail.
+fn both(mode: Mode, item: Item, second: u8) -> Step
+    ensures { result ≡ step.Unit item (both_len item second) mode }
+{
+    Step::Unit {
+        item,
+        length: both_len(item, second),
+        next: mode,
+    }
+}
+
+fn both_len(item: Item, second: u8) -> u8
+    ensures { result ≡ both_len item second }
+{
+    match item {
+        Item::Malformed if second < 0x80 => 1,
+        _ => 2,
+    }
+}
+
+// ASCII as it is, and malformed else.
+pub(crate) fn ascii_alone(byte: u8) -> Item
+    ensures { result ≡ ascii_alone byte }
+{
+    if byte < 0x80 {
+        Item::One(char::from(byte))
+    } else {
+        Item::Malformed
+    }
+}
+
+// Whether a byte is from low to high.
+pub(crate) fn is_between(low: u8, high: u8, byte: u8) -> bool
+    ensures { result ≡ is_between low high byte }
+{
+    low <= byte && byte <= high
+}
+
+// What an index has at a place, malformed where it has no scalar there.
+pub(crate) fn item_found(scalar: Option<char>) -> Item
+    ensures { result ≡ item_found scalar }
+{
+    match scalar {
+        Some(scalar) => Item::One(scalar),
+        None => Item::Malformed,
+    }
+}

@@ -1,0 +1,110 @@
+//! Shift_JIS (Encoding Standard, section 12.3.1, Shift_JIS decoder).
+
+ghost use Rattle.std.specs.Prelude.{◌≡◌, ◌<◌, ◌≤◌, ◌||◌, true};
+ghost use Rattle.enc_drivers.specs.Codes.ShiftJis.{is_shift_jis_lead, is_shift_jis_trail, shift_jis_place, shift_jis_at, shift_jis_alone, shift_jis_pairs, shift_jis_unit};
+
+use crate::code::{Bulk, Code, Step};
+use crate::codes::pairs::{self, PairCode};
+use crate::lookup::Lookup;
+use crate::{Item, Mode};
+
+#[cfg(test)]
+mod tests;
+
+/// The code of Shift_JIS over index jis0208.
+#[derive(Drop)]
+pub struct ShiftJis<'t, L: Lookup> {
+    jis0208: &'t L,
+}
+
+impl<'t, L: Lookup> ShiftJis<'t, L> {
+    /// The code. Places 8836 to 10715 are private use, and never looked up.
+    pub fn new(jis0208: &'t L) -> ShiftJis<'t, L>
+        ensures { ⟦<ShiftJis<'t, L> as Code>⟧.unit result ≡ shift_jis_unit (L.places jis0208.now) }
+    {
+        ShiftJis { jis0208 }
+    }
+}
+
+impl<'t, L: Lookup> Code for ShiftJis<'t, L> {
+    ghost use Rattle.enc_drivers.specs.Lemmas.ShiftJisLaw.{shift_jis_law};
+
+    ghost unit = { λ code. shift_jis_unit (L.places code.jis0208.now) };
+
+    fn step(&self, mode: Mode, front: &[u8], last: bool) -> Step {
+        pairs::step(self, mode, front, last)
+    }
+
+    fn bulk(&self) -> Bulk {
+        Bulk::Ascii
+    }
+
+    ghost laws = { λ code. shift_jis_law (L.places code.jis0208.now) (L.scalars code.jis0208.now) };
+}
+
+impl<'t, L: Lookup> PairCode for ShiftJis<'t, L> {
+    ghost pairs = { λ code. shift_jis_pairs (L.places code.jis0208.now) };
+
+    fn is_lead(&self, byte: u8) -> bool {
+        is_lead(byte)
+    }
+
+    fn alone(&self, byte: u8) -> Item {
+        alone(byte)
+    }
+
+    fn both(&self, lead: u8, second: u8) -> Item {
+        if !is_trail(second) {
+            return Item::Malformed;
+        }
+        at(self.jis0208, place(lead, second))
+    }
+}
+
+fn is_lead(byte: u8) -> bool
+    ensures { result ≡ is_shift_jis_lead byte }
+{
+    pairs::is_between(0x81, 0x9F, byte) || pairs::is_between(0xE0, 0xFC, byte)
+}
+
+fn is_trail(byte: u8) -> bool
+    ensures { result ≡ is_shift_jis_trail byte }
+{
+    pairs::is_between(0x40, 0x7E, byte) || pairs::is_between(0x80, 0xFC, byte)
+}
+
+// What a byte stands for that is no lead.
+#[tactic(auto, unfolding(crate::specs::Codes::ShiftJis::shift_jis_alone))]
+fn alone(byte: u8) -> Item
+    ensures { result ≡ shift_jis_alone byte }
+{
+    if byte <= 0x80 {
+        return Item::One(char::from(byte));
+    }
+    if pairs::is_between(0xA1, 0xDF, byte) {
+        return Item::One(char::from_u32(0xFF61 + u32::from(byte - 0xA1)).unwrap());
+    }
+    Item::Malformed
+}
+
+// Where a lead and a trail stand in the index.
+fn place(lead: u8, trail: u8) -> u32
+    requires lead { is_shift_jis_lead lead ≡ true }
+    requires trail { is_shift_jis_trail trail ≡ true }
+    ensures { result ≡ shift_jis_place lead trail }
+{
+    let lead_offset = if lead < 0xA0 { 0x81 } else { 0xC1 };
+    let offset = if trail < 0x7F { 0x40 } else { 0x41 };
+    u32::from(lead - lead_offset) * 188 + u32::from(trail - offset)
+}
+
+// What stands at a place.
+#[tactic(auto, unfolding(crate::specs::Codes::ShiftJis::shift_jis_at))]
+fn at<L: Lookup>(jis0208: &L, place: u32) -> Item
+    ensures { result ≡ shift_jis_at (L.places jis0208.now) place }
+{
+    if 8836 <= place && place <= 10715 {
+        return Item::One(char::from_u32(0xE000 + (place - 8836)).unwrap());
+    }
+    pairs::item_found(jis0208.at(place))
+}

@@ -1,0 +1,56 @@
+//! x-user-defined (Encoding Standard, section 14.5).
+
+ghost use Rattle.std.specs.Prelude.{◌≡◌};
+ghost use Rattle.enc_drivers.specs.Codes.UserDefined.{user_defined_scalar, user_defined_unit};
+
+use crate::code::{Bulk, Code, Step};
+use crate::{Item, Mode};
+
+#[cfg(test)]
+mod tests;
+
+/// The code of x-user-defined: each byte is a scalar, 80 to FF from U+F780 on.
+#[derive(Clone, Copy, Debug, PartialEq, Eq)]
+pub struct UserDefined;
+
+impl UserDefined {
+    /// The code.
+    pub fn new() -> UserDefined
+        ensures { ⟦<UserDefined as Code>⟧.unit result ≡ user_defined_unit }
+    {
+        UserDefined
+    }
+}
+
+impl Code for UserDefined {
+    ghost use Rattle.enc_drivers.specs.Lemmas.SingleByteLaw.{user_defined_law};
+
+    ghost unit = { λ code. user_defined_unit };
+
+    fn step(&self, mode: Mode, front: &[u8], last: bool) -> Step {
+        let _ = last;
+        Step::Unit {
+            item: Item::One(scalar_of(front[0])),
+            length: 1,
+            next: mode,
+        }
+    }
+
+    fn bulk(&self) -> Bulk {
+        Bulk::Ascii
+    }
+
+    ghost laws = { λ code. user_defined_law };
+}
+
+// The scalar of a byte.
+#[tactic(auto, unfolding(crate::specs::Codes::UserDefined::user_defined_scalar))]
+fn scalar_of(byte: u8) -> char
+    ensures { result ≡ user_defined_scalar byte }
+{
+    if byte < 0x80 {
+        char::from(byte)
+    } else {
+        char::from_u32(0xF780 + u32::from(byte - 0x80)).unwrap()
+    }
+}

@@ -1,0 +1,128 @@
+//! UTF-16 in either byte order (Encoding Standard, section 14.2.1, shared UTF-16 decoder).
+
+ghost use Rattle.std.specs.Prelude.{◌≡◌, ◌<◌, ◌≤◌, true, false, length};
+ghost use Rattle.enc_handles.specs.Utf16.{code_unit, is_lead, is_trail, pair_scalar};
+ghost use Rattle.enc_drivers.specs.declared.code.Step.TheVariants as step;
+ghost use Rattle.enc_drivers.specs.Steps.{Steps};
+ghost use Rattle.enc_drivers.specs.Codes.Utf16.{single_unit, utf16_unit};
+
+use crate::code::{Bulk, Code, Step};
+use crate::steps::{cut, malformed};
+use crate::{Item, Mode};
+use enc_handles::endian::Endian;
+use std::marker::PhantomData;
+
+#[cfg(test)]
+mod tests;
+
+/// The code of UTF-16 in a byte order.
+#[derive(Drop)]
+pub struct Utf16Code<E: Endian> {
+    order: PhantomData<E>,
+}
+
+impl<E: Endian> Utf16Code<E> {
+    /// The code.
+    pub fn new() -> Utf16Code<E>
+        ensures { ⟦<Utf16Code<E> as Code>⟧.unit result ≡ utf16_unit E.OPPOSITE_ENDIAN }
+    {
+        Utf16Code { order: PhantomData }
+    }
+}
+
+impl<E: Endian> Code for Utf16Code<E> {
+    ghost use Rattle.enc_drivers.specs.Lemmas.Utf16Law.{utf16_law};
+
+    ghost unit = { λ code. utf16_unit E.OPPOSITE_ENDIAN };
+
+    fn step(&self, mode: Mode, front: &[u8], last: bool) -> Step {
+        step(E::OPPOSITE_ENDIAN, mode, front, last)
+    }
+
+    fn bulk(&self) -> Bulk {
+        if E::OPPOSITE_ENDIAN {
+            return Bulk::Utf16Be;
+        }
+        Bulk::Utf16Le
+    }
+
+    ghost laws = { λ code. utf16_law E.OPPOSITE_ENDIAN };
+}
+
+// What the front tells, big-endian where `big`.
+fn step(big: bool, mode: Mode, front: &[u8], last: bool) -> Step
+    requires some { 0 < length front.now }
+    requires few { length front.now ≤ 4 }
+    ensures { Steps (utf16_unit big) mode front.now last result }
+{
+    if front.len() < 2 {
+        return cut(mode, 1, last);
+    }
+    let first = code_unit(big, front[0], front[1]);
+    if !is_lead(first) {
+        return single(mode, first);
+    }
+    if front.len() < 4 {
+        return cut(mode, front.len() as u8, last);
+    }
+    let second = code_unit(big, front[2], front[3]);
+    if !is_trail(second) {
+        return malformed(mode, 2);
+    }
+    Step::Unit {
+        item: Item::One(pair_char(first, second)),
+        length: 4,
+        next: mode,
+    }
+}
+
+// A code unit that is no lead: a scalar, or a trail without a lead.
+fn single(mode: Mode, unit: u16) -> Step
+    requires { is_lead unit ≡ false }
+    ensures { let u = single_unit mode unit in result ≡ step.Unit u.item u.len u.next }
+{
+    if is_trail(unit) {
+        return malformed(mode, 2);
+    }
+    Step::Unit {
+        item: Item::One(char::from_u32(u32::from(unit)).unwrap()),
+        length: 2,
+        next: mode,
+    }
+}
+
+// The scalar of a surrogate pair.
+fn pair_char(lead: u16, trail: u16) -> char
+    requires lead { is_lead lead ≡ true }
+    requires trail { is_trail trail ≡ true }
+    ensures { result ≡ pair_scalar lead trail }
+{
+    let high = u32::from(lead) - 0xD800;
+    let low = u32::from(trail) - 0xDC00;
+    char::from_u32(0x1_0000 + high * 0x400 + low).unwrap()
+}
+
+// The code unit of two bytes.
+fn code_unit(big: bool, first: u8, second: u8) -> u16
+    ensures { result ≡ code_unit big first second }
+{
+    if big {
+        u16::from(first) * 0x100 + u16::from(second)
+    } else {
+        u16::from(second) * 0x100 + u16::from(first)
+    }
+}
+
+// Whether a code unit is a leading surrogate.
+fn is_lead(unit: u16) -> bool
+    ensures { result ≡ is_lead unit }
+{
+    0xD800 <= unit && unit <= 0xDBFF
+}
+
+// Whether a code unit is a trailing surrogate.
+fn is_trail(unit: u16) -> bool
+    ensures { result ≡ is_trail unit }
+{
+    0xDC00 <= unit && unit <= 0xDFFF
+}

@@ -1,0 +1,148 @@
+//! What the tests of codes and drivers share.
+ghost use Rattle.std.specs.Prelude.{◌≡◌, ◌<◌, ◌≤◌, ◌==◌, if◌then◌else◌, None, Some};
+ghost use Rattle.std.proofs.Common.{rules};
+
+use crate::code::{Code, Step};
+use crate::drivers::general::GeneralDriver;
+use crate::lookup::Lookup;
+use crate::{Item, Mode};
+use enc_handles::results::DecoderResult;
+use std::alloc::Global;
+use std::process::Abort;
+use std::test::Fail;
+
+// What is wanted of a step: a scalar or malformed bytes, and how many, or more bytes.
+#[derive(Clone, Copy)]
+pub(crate) enum Want {
+    One(char, u8),
+    Bad(u8),
+    More,
+}
+
+fn step_of(want: Want) -> Step {
+    match want {
+        Want::One(scalar, length) => Step::Unit {
+            item: Item::One(scalar),
+            length,
+            next: Mode::Plain,
+        },
+        Want::Bad(length) => Step::Unit {
+            item: Item::Malformed,
+            length,
+            next: Mode::Plain,
+        },
+        Want::More => Step::More,
+    }
+}
+
+// Bytes, and what is wanted before the end and at the end.
+pub(crate) type Front = (&'static [u8], Want, Want);
+
+pub(crate) fn check_steps<C: Code>(rt: &impl Abort, code: &C, rows: &[Front]) {
+    for (front, before, at_end) in rows {
+        assert!(rt; !front.is_empty() && front.len() <= 4);
+        let going = code.step(Mode::Plain, front, false);
+        assert_eq!(rt; going, step_of(*before), "{front:?}");
+        let last = code.step(Mode::Plain, front, true);
+        assert_eq!(rt; last, step_of(*at_end), "{front:?} at the end");
+    }
+}
+
+// An index of nothing.
+pub(crate) struct Nothing;
+
+impl Lookup for Nothing {
+    ghost places = { λ index place. None };
+
+    ghost scalars = { λ index place. Prim.search rules };
+
+    fn at(&self, place: u32) -> Option<char> {
+        let _ = place;
+        None
+    }
+}
+
+// An index with one scalar everywhere.
+pub(crate) struct Alphas;
+
+impl Lookup for Alphas {
+    ghost places = { λ index place. Some 0x3B1 };
+
+    ghost scalars = { λ index place. Prim.search rules };
+
+    fn at(&self, place: u32) -> Option<char> {
+        let _ = place;
+        Some('\u{3b1}')
+    }
+}
+
+// An index of one row: U+0416 at a place.
+#[derive(Drop)]
+pub(crate) struct OneRow {
+    pub(crate) place: u32,
+}
+
+impl Lookup for OneRow {
+    ghost places = { λ index place. (if place == index.place then Some 0x416 else None) };
+
+    ghost scalars = { λ index place. Prim.search rules };
+
+    fn at(&self, place: u32) -> Option<char> {
+        if place == self.place {
+            Some('\u{416}')
+        } else {
+            None
+        }
+    }
+}
+
+// Decodes a piece, and appends its text, with U+FFFD for malformed units, and the lengths of these.
+fn decode_piece<C: Code>(
+    driver: &mut GeneralDriver<C>,
+    piece: &[u8],
+    last: bool,
+    text: &mut Vec<u8>,
+    lengths: &mut Vec<u8>,
+) -> Result<bool, Fail> {
+    let mut rest = piece;
+    for _ in 0..100 {
+        let mut dst = [0; 5];
+        let (result, read, written) = driver.decode_to_utf8_raw(rest, &mut dst, last);
+        rest = &rest[read..];
+        text.extend_from_slice(&dst[..written])?;
+        match result {
+            DecoderResult::InputEmpty => return Ok(rest.is_empty()),
+            DecoderResult::OutputFull => {}
+            DecoderResult::Malformed(length, _) => {
+                text.extend_from_slice(b"\xef\xbf\xbd")?;
+                lengths.push(length)?;
+            }
+        }
+    }
+    Ok(false)
+}
+
+// Bytes, their text with U+FFFD for malformed units, and the lengths of these.
+pub(crate) type Text = (&'static [u8], &'static str, &'static [u8]);
+
+// Decodes a row in two pieces.
+pub(crate) fn check_cut<C: Code + Drop>(
+    rt: &impl Abort,
+    alloc: Global,
+    code: C,
+    row: &Text,
+    cut: usize,
+) -> Result<(), Fail> {
+    let (bytes, wanted, wanted_lengths) = row;
+    let mut driver = GeneralDriver::new(code);
+    let mut text = Vec::new(alloc);
+    let mut lengths = Vec::new(alloc);
+    assert!(rt; cut <= bytes.len());
+    let first = decode_piece(&mut driver, &bytes[..cut], false, &mut text, &mut lengths)?;
+    assert!(rt; first, "{bytes:?} at {cut}");
+    let second = decode_piece(&mut driver, &bytes[cut..], true, &mut text, &mut lengths)?;
+    assert!(rt; second, "{bytes:?} at {cut}");
+    assert_eq!(rt; text.as_slice(), wanted.as_bytes(), "{bytes:?} at {cut}");
+    assert_eq!(rt; lengths.as_slice(), *wanted_lengths, "{bytes:?} at {cut}");
+    Ok(())
+}
