@@ -1,5 +1,5 @@
 -- Calls of a driver and of a decoder, over plain values.
-use Rattle.std.proofs.Common.{◌≡◌, ℕ, zero, suc, ◌+◌, ◌-◌, ◌*◌, ◌<◌, ◌≤◌, Bool, true, false, List, [], ◌∷◌, ◌++◌, length, take, drop, refl, ap, sym, ◌∙◌, arith, inl, inr, append_assoc, length-append, length-drop, drop_at, le_refl}
+use Rattle.std.proofs.Common.{◌≡◌, ℕ, zero, suc, ◌+◌, ◌-◌, ◌*◌, ◌<◌, ◌≤◌, Bool, false, List, [], ◌∷◌, ◌++◌, length, take, drop, refl, ap, sym, ◌∙◌, arith, append_assoc, length-append, length-drop, drop_at, le_refl}
 use Rattle.std.specs.Prelude.{encode_utf8}
 use Rattle.std.specs.List.{All, sum_by}
 use Rattle.std.proofs.Math.Seq.{drop-append_seam, take-append_seam, take-add}
@@ -11,38 +11,23 @@ use Rattle.std.proofs.lemmas.List.Sums.{sum_by-cons}
 use borrow.Rule.Slice.PartMut.{put_mid, post_of}
 use Rattle.enc_handles.specs.declared.results.DecoderResult.{DecoderResult}
 use Rattle.enc_handles.specs.declared.results.DecoderResult.TheVariants as result
-use Rattle.enc_drivers.specs.declared.Item.{Item}
-use Rattle.enc_drivers.specs.declared.Item.TheVariants as item
-use Rattle.enc_drivers.specs.declared.Mode.{Mode}
-use Rattle.enc_drivers.specs.declared.Mode.TheVariants.{Plain}
-use Rattle.enc_drivers.specs.Lemmas.SingleByteLaw.{windows_1252_law, user_defined_law}
-use Rattle.enc_drivers.specs.Lemmas.Utf16Law.{utf16_law}
-use Rattle.enc_drivers.specs.Lemmas.Utf8Law.{utf8_law}
+use Rattle.enc_drivers.specs.declared.unit.Item.{Item}
+use Rattle.enc_drivers.specs.declared.unit.Item.TheVariants as item
+use Rattle.enc_drivers.specs.declared.unit.Mode.{Mode}
 use Rattle.enc_drivers.specs.Resume.{Standing, Resumes, ResumesWriting, item_in, text_in, malformed_of}
 use Rattle.enc_drivers.specs.Units.{Code, IsCode, AreBytes, units}
 use Rattle.enc_drivers.proofs.CallLemmas.{short_call_law, text_in_utf_8}
 use Rattle.enc_drivers.proofs.UnitLemmas.{units_nil, units_some}
-use Rattle.enc_front.specs.declared.names.Encoding.{Encoding}
-use Rattle.enc_front.specs.declared.variant.VariantDecoder.{VariantDecoder}
-use Rattle.enc_front.specs.declared.variant.VariantDecoder.TheVariants.{Utf8, Utf16Be, Utf16Le, Windows1252, UserDefined}
-use Rattle.enc_front.specs.declared.start.Start.{Start}
-use Rattle.enc_front.specs.declared.start.Start.TheVariants.{Over}
-use Rattle.enc_front.specs.Calls.{with_more}
-use Rattle.enc_front.specs.Decoding.{DecoderResumes, DecoderResumesWriting, DecoderMayHold}
+use Rattle.enc_front.specs.declared.encoding.Encoding.{Encoding}
+use Rattle.enc_front.specs.declared.mark.Start.{Start}
+use Rattle.enc_front.specs.declared.mark.Start.TheVariants.{Over}
+use Rattle.enc_front.specs.DecoderSteps.{with_more}
+use Rattle.enc_front.specs.DecoderCalls.{DecoderResumes, DecoderResumesWriting}
 use Rattle.enc_front.specs.Indexes.{Indexes}
-use Rattle.enc_front.specs.LifeCycle.{held_at, mode_at}
+use Rattle.enc_front.specs.DecoderView.{held_at, mode_at}
 use Rattle.enc_front.specs.Start.{marks_at}
-use Rattle.enc_front.specs.Standing.{DecoderStanding, no_mark, past_mark, to_come, encoding_to_come}
+use Rattle.enc_front.specs.Decoder.{DecoderPlace, no_mark, past_mark, to_come, encoding_to_come}
 use Rattle.enc_front.specs.Units.{unit}
-use Rattle.enc_front.specs.Variant.{encoding_in}
-
--- the units of a driver's encoding keep what a code keeps
-pub unit_law : (driver : VariantDecoder) → IsCode (unit (encoding_in driver) [])
-unit_law (Utf8 driver) = utf8_law
-unit_law (Utf16Be driver) = utf16_law true
-unit_law (Utf16Le driver) = utf16_law false
-unit_law (Windows1252 driver) = windows_1252_law
-unit_law (UserDefined driver) = user_defined_law
 
 -- a unit has some byte
 abbrev HasByte : Item × ℕ → Type 0
@@ -98,13 +83,14 @@ module _ (code : Code) (last : Bool) (a b : Standing) (src : List ℕ) (n : ℕ)
       omega arith
 
 -- a call of the driver on what has to be read first, in a decoder
-pub replayed : (at : DecoderStanding) (a b : Standing) (replay : List ℕ) (n : ℕ) (written : List ℕ) (malformed : List (Item × ℕ))
-    → ResumesWriting (unit at.encoding at.indexes) encode_utf8 false a b replay n written malformed
-    → DecoderResumesWriting false (record at { marks = no_mark; held = a.held ++ replay; mode = a.mode })
-    (record at { marks = no_mark; held = b.held ++ drop n replay; mode = b.mode }) [] 0 written malformed
+replayed : (indexes : Indexes) (encoding : Encoding) (a b : Standing) (replay : List ℕ) (n : ℕ) (written : List ℕ) (malformed : List (Item × ℕ))
+    → ResumesWriting (unit encoding indexes) encode_utf8 false a b replay n written malformed
+    → DecoderResumesWriting false
+    (record { indexes = indexes; encoding = encoding; marks = no_mark; held = a.held ++ replay; mode = a.mode })
+    (record { indexes = indexes; encoding = encoding; marks = no_mark; held = b.held ++ drop n replay; mode = b.mode }) [] 0 written malformed
 unfolding past_mark
-replayed at a b replay n written malformed call =
-    let code = unit at.encoding at.indexes in
+replayed indexes encoding a b replay n written malformed call =
+    let code = unit encoding indexes in
     record {
       decoded = call.decoded;
       resumes = record {
@@ -120,28 +106,32 @@ replayed at a b replay n written malformed call =
     }
 
 -- the same with what a decoder keeps, in its own terms
-pub replayed_at : (indexes : Indexes) (encoding after : Encoding) (owes finished : Bool) (start : Start) (a b : Standing) (replay rest : List ℕ) (n : ℕ) (written : List ℕ) (malformed told : List (Item × ℕ))
-    → start ≡ Over → after ≡ encoding → rest ≡ drop n replay → told ≡ malformed
-    → ResumesWriting (unit encoding indexes) encode_utf8 false a b replay n written malformed
+pub replayed_at : (indexes : Indexes) (encoding : Encoding) (code : Code) (start : Start) (a b : Standing) (replay rest : List ℕ) (n : ℕ) (written : List ℕ) (malformed told : List (Item × ℕ))
+    → start ≡ Over → code ≡ unit encoding indexes → rest ≡ drop n replay → told ≡ malformed
+    → ResumesWriting code encode_utf8 false a b replay n written malformed
     → DecoderResumesWriting false
-    (record { indexes = indexes; encoding = encoding; marks = marks_at start; held = held_at start (a.held ++ replay); mode = mode_at start a.mode; owes = owes; finished = finished })
-    (record { indexes = indexes; encoding = after; marks = marks_at start; held = held_at start (b.held ++ rest); mode = mode_at start b.mode; owes = owes; finished = finished })
+    (record { indexes = indexes; encoding = encoding; marks = marks_at start; held = held_at start (a.held ++ replay); mode = mode_at start a.mode })
+    (record { indexes = indexes; encoding = encoding; marks = marks_at start; held = held_at start (b.held ++ rest); mode = mode_at start b.mode })
     [] 0 written told
-replayed_at indexes encoding after owes finished start a b replay rest n written malformed told over same is tells call =
-    rw (over, same, is, tells)
-    (replayed (record { indexes = indexes; encoding = encoding; marks = no_mark; held = []; mode = Plain; owes = owes; finished = finished }) a b replay n written malformed call)
+replayed_at indexes encoding code start a b replay rest n written malformed told over same is tells call =
+    rw (over, is, tells) (replayed indexes encoding a b replay n written malformed (rw same at call))
 
 pub same_malformed : (tells : DecoderResult) (k : ℕ) → malformed_of (with_more tells k) ≡ malformed_of tells
 same_malformed result.InputEmpty k = refl
 same_malformed result.OutputFull k = refl
 same_malformed (result.Malformed n held) k = refl
 
+pub with_more_full : (tells : DecoderResult) (k : ℕ) → with_more tells k ≡ result.OutputFull → tells ≡ result.OutputFull
+with_more_full result.InputEmpty k e = cc e
+with_more_full result.OutputFull k e = refl
+with_more_full (result.Malformed n held) k e = cc e
+
 -- held bytes of a driver and of what has to be read first
 pub held_length : (start : Start) (a replay : List ℕ) → start ≡ Over → length (held_at start (a ++ replay)) ≡ length a + length replay
 held_length start a replay over = rw over (length-append a replay)
 
 -- two calls in a row
-pub resumes_more : (last : Bool) (a b c : DecoderStanding) (src : List ℕ) (n m read : ℕ) (one two whole : List ℕ) (malformed told : List (Item × ℕ))
+pub resumes_more : (last : Bool) (a b c : DecoderPlace) (src : List ℕ) (n m read : ℕ) (one two whole : List ℕ) (malformed told : List (Item × ℕ))
     → DecoderResumesWriting last a b src n one [] → DecoderResumesWriting last b c (drop n src) m two malformed
     → read ≡ n + m → whole ≡ one ++ two → told ≡ malformed → DecoderResumesWriting last a c src read whole told
 resumes_more last a b c src n m read one two whole malformed told first second counts joins tells =
@@ -164,7 +154,7 @@ resumes_more last a b c src n m read one two whole malformed told first second c
     }
 
 -- a call that reads nothing, with what is still to be read
-pub resumes_before : (last : Bool) (a b : DecoderStanding) (src written : List ℕ) (malformed : List (Item × ℕ)) → AreBytes src
+pub resumes_before : (last : Bool) (a b : DecoderPlace) (src written : List ℕ) (malformed : List (Item × ℕ)) → AreBytes src
     → DecoderResumesWriting false a b [] 0 written malformed → DecoderResumesWriting last a b src 0 written malformed
 resumes_before last a b src written malformed are call = record {
   decoded = call.decoded;
@@ -180,19 +170,20 @@ resumes_before last a b src written malformed are call = record {
 }
 
 -- a call of the driver where nothing has to be read first, in a decoder
-pub converted_at : (indexes : Indexes) (encoding after : Encoding) (owes finished last : Bool) (start : Start) (a b : Standing) (replay src : List ℕ) (n : ℕ) (written : List ℕ) (malformed : List (Item × ℕ))
-    → start ≡ Over → after ≡ encoding → replay ≡ []
-    → ResumesWriting (unit encoding indexes) encode_utf8 last a b src n written malformed
+pub converted_at : (indexes : Indexes) (encoding : Encoding) (unit_then : Code) (last : Bool) (start : Start) (a b : Standing) (replay src : List ℕ) (n : ℕ) (written : List ℕ) (malformed : List (Item × ℕ))
+    → start ≡ Over → unit_then ≡ unit encoding indexes → replay ≡ []
+    → ResumesWriting unit_then encode_utf8 last a b src n written malformed
     → DecoderResumesWriting last
-    (record { indexes = indexes; encoding = encoding; marks = marks_at start; held = held_at start (a.held ++ replay); mode = mode_at start a.mode; owes = owes; finished = finished })
-    (record { indexes = indexes; encoding = after; marks = marks_at start; held = held_at start (b.held ++ replay); mode = mode_at start b.mode; owes = owes; finished = finished })
+    (record { indexes = indexes; encoding = encoding; marks = marks_at start; held = held_at start (a.held ++ replay); mode = mode_at start a.mode })
+    (record { indexes = indexes; encoding = encoding; marks = marks_at start; held = held_at start (b.held ++ replay); mode = mode_at start b.mode })
     src n written malformed
 unfolding past_mark
-converted_at indexes encoding after owes finished last start a b replay src n written malformed over same none call =
+converted_at indexes encoding unit_then last start a b replay src n written malformed over same none before_call =
     let code = unit encoding indexes in
+    let call : ResumesWriting code encode_utf8 last a b src n written malformed = rw same at before_call in
     let before : a.held ++ [] ≡ a.held = append-nil a.held in
     let behind : b.held ++ [] ≡ b.held = append-nil b.held in
-    rw (over, same, none) record {
+    rw (over, none) record {
       decoded = call.decoded;
       resumes = record {
         well_formed = call.resumes.well_formed;
@@ -218,40 +209,18 @@ written_more from n dst part within fits =
     ap (λ (l : List ℕ). take n l) (drop_at (take from dst) (part ++ after) from (length-take-le from dst within)) ∙ take-append-le n part after fits in
     take-add from n new ∙ ap (λ (l : List ℕ). l ++ take n (drop from new)) front ∙ ap (λ (l : List ℕ). take from dst ++ l) mid
 
-pub none_written : (last : Bool) (a b : DecoderStanding) (src : List ℕ) (n : ℕ) → DecoderResumes last a b src n [] [] → DecoderResumesWriting last a b src n [] []
+pub none_written : (last : Bool) (a b : DecoderPlace) (src : List ℕ) (n : ℕ) → DecoderResumes last a b src n [] [] → DecoderResumesWriting last a b src n [] []
 none_written last a b src n call = record { decoded = []; resumes = call; text = refl }
 
--- whether the stream has ended is nothing to what is to come
-pub resumes_finished : (last : Bool) (a b : DecoderStanding) (src : List ℕ) (n : ℕ) (written : List ℕ) (malformed : List (Item × ℕ)) (finished : Bool)
-    → DecoderResumesWriting last a b src n written malformed → DecoderResumesWriting last a (record b { finished = finished }) src n written malformed
-resumes_finished last a b src n written malformed finished call = record {
-  decoded = call.decoded;
-  resumes = record { well_formed = call.resumes.well_formed; equation = call.resumes.equation; same_encoding = call.resumes.same_encoding; same_indexes = call.resumes.same_indexes };
-  text = call.text;
-}
-
-pub may_hold_finished : (last : Bool) (at : DecoderStanding) (finished : Bool) → DecoderMayHold last at → DecoderMayHold last (record at { finished = finished })
-may_hold_finished last at finished may = record {
-  few = may.few;
-  end = may.end;
-  undecided = elim may.undecided [
-    | inl e ↦ inl e
-    | inr u ↦ inr (elim u [
-      | inl m ↦ inl (record { encoding = m.encoding; rest = m.rest; some = m.some; mark = m.mark; removed = m.removed })
-      | inr d ↦ inr (record { started = d.started; undecided = d.undecided })
-    ])
-  ];
-}
-
-pub may_hold_owes : (last : Bool) (at : DecoderStanding) (owes : Bool) → DecoderMayHold last at → DecoderMayHold last (record at { owes = owes })
-may_hold_owes last at owes may = record {
-  few = may.few;
-  end = may.end;
-  undecided = elim may.undecided [
-    | inl e ↦ inl e
-    | inr u ↦ inr (elim u [
-      | inl m ↦ inl (record { encoding = m.encoding; rest = m.rest; some = m.some; mark = m.mark; removed = m.removed })
-      | inr d ↦ inr (record { started = d.started; undecided = d.undecided })
-    ])
-  ];
+-- nothing was to be read first
+pub nothing_replayed : (at : DecoderPlace) → DecoderResumesWriting false at at [] 0 [] []
+nothing_replayed at = record {
+  decoded = [];
+  resumes = record {
+    well_formed = All-nil (λ (u : Item × ℕ). ¬ (u.0 ≡ item.Malformed));
+    equation = λ more follows. refl;
+    same_encoding = λ more follows. refl;
+    same_indexes = refl;
+  };
+  text = refl;
 }

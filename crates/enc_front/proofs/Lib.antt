@@ -1,6 +1,14 @@
+pub mod AsciiLemmas
 pub mod CallLemmas
+pub mod CheckedIndexes
+pub mod IndexFileLemmas
+pub mod IndexLemmas
+pub mod LabelLemmas
 pub mod MarkLemmas
-pub mod Reading
+pub mod RangeLemmas
+pub mod RowLemmas
+pub mod RunLemmas
 pub mod ReplaceLemmas
 pub mod StartLemmas
 pub mod TextLemmas
+pub mod UnitLaws

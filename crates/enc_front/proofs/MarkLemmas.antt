@@ -4,14 +4,14 @@ use Rattle.std.specs.Prelude.{nat_eq, if◌then◌else◌, drop, Option, Some, N
 use Rattle.std.specs.List.{starts_with}
 use Rattle.std.specs.Option.{option_map_or}
 use Rattle.std.proofs.lemmas.Bool.{ne_eqb, eqb-true}
-use Rattle.enc_front.specs.declared.names.Encoding.{Encoding}
-use Rattle.enc_front.specs.declared.names.Encoding.TheVariants.{Utf8, Utf16Be, Utf16Le}
-use Rattle.enc_front.specs.declared.start.MarkPart.{MarkPart}
-use Rattle.enc_front.specs.declared.start.MarkPart.TheVariants.{Ef, EfBb, Fe, Ff}
-use Rattle.enc_front.specs.declared.start.Start.TheVariants.{Any, Own, Seen, Over}
-use Rattle.enc_front.specs.declared.start.Look.TheVariants.{Part, Mark, Other}
+use Rattle.enc_front.specs.declared.encoding.Encoding.{Encoding}
+use Rattle.enc_front.specs.declared.encoding.Encoding.TheVariants.{Utf8, Utf16Be, Utf16Le}
+use Rattle.enc_front.specs.declared.mark.MarkPart.{MarkPart}
+use Rattle.enc_front.specs.declared.mark.MarkPart.TheVariants.{Ef, EfBb, Fe, Ff}
+use Rattle.enc_front.specs.declared.mark.Start.TheVariants.{Any, Own, Seen, Over}
+use Rattle.enc_front.specs.declared.mark.Look.TheVariants.{Part, Mark, Other}
 use Rattle.enc_front.specs.Marks.{mark_of}
-use Rattle.enc_front.specs.Standing.{any_mark, own_mark, past_mark}
+use Rattle.enc_front.specs.Decoder.{any_mark, own_mark, past_mark}
 use Rattle.enc_front.specs.Start.{LooksAt, next_byte}
 
 pub any_other : (encoding : Encoding) (b : ℕ) → ¬ (0xEF ≡ b) → ¬ (0xFE ≡ b) → ¬ (0xFF ≡ b) → LooksAt Any encoding b Other

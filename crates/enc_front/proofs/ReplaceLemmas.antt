@@ -9,16 +9,16 @@ use Rattle.std.proofs.lemmas.List.Sums.{sum_by-cons, sum_by-append}
 use Rattle.std.proofs.lemmas.List.Elements.{All-head, All-tail}
 use Rattle.enc_handles.specs.declared.results.DecoderResult.{DecoderResult}
 use Rattle.enc_handles.specs.declared.results.DecoderResult.TheVariants as result
-use Rattle.enc_drivers.specs.declared.Item.{Item}
-use Rattle.enc_drivers.specs.declared.Item.TheVariants as item
+use Rattle.enc_drivers.specs.declared.unit.Item.{Item}
+use Rattle.enc_drivers.specs.declared.unit.Item.TheVariants as item
 use Rattle.enc_drivers.specs.Resume.{malformed_of}
 use Rattle.enc_drivers.specs.Steps.{MayFollow}
 use Rattle.enc_drivers.specs.Units.{text, item_text, replacement}
 use Rattle.enc_drivers.proofs.CallLemmas.{text_in_utf_8}
 use Rattle.enc_drivers.proofs.UnitLemmas.{text_nil}
-use Rattle.enc_front.specs.Calls.{tells_malformed}
-use Rattle.enc_front.specs.Decoding.{DecoderResumesWriting, Replaces, EndsMalformed, is_malformed, malformed_count, owed_count}
-use Rattle.enc_front.specs.Standing.{DecoderStanding, owed, to_come, encoding_to_come, text_to_come}
+use Rattle.enc_front.specs.DecoderSteps.{tells_malformed}
+use Rattle.enc_front.specs.DecoderCalls.{DecoderResumesWriting, Replaces, EndsMalformed, is_malformed, malformed_count, owed_count}
+use Rattle.enc_front.specs.Decoder.{DecoderStanding, owed, to_come, encoding_to_come, text_to_come}
 
 -- the text of units in a row
 pub text-append : (a b : List (Item × ℕ)) → text (a ++ b) ≡ text a ++ text b
@@ -80,7 +80,7 @@ replaces_nothing last a src = record {
 
 -- a turn
 pub replaces_turn : (last : Bool) (a b : DecoderStanding) (src : List ℕ) (n : ℕ) (first second whole : List ℕ) (tells : DecoderResult) (owes : Bool)
-    → DecoderResumesWriting last (record a { owes = false }) b src n second (malformed_of tells) → first ≡ owed a → whole ≡ first ++ second → owes ≡ tells_malformed tells
+    → DecoderResumesWriting last a.place b.place src n second (malformed_of tells) → first ≡ owed a → whole ≡ first ++ second → owes ≡ tells_malformed tells
     → Replaces last a (record b { owes = owes }) src n whole a.owes
 replaces_turn last a b src n first second whole tells owes call paid joins told =
     let wrong = malformed_of tells in
@@ -90,7 +90,7 @@ replaces_turn last a b src n first second whole tells owes call paid joins told 
     malformed_count-append call.decoded wrong ∙ (ap (λ k. k + malformed_count wrong) (well_formed_none call.decoded call.resumes.well_formed) ∙ (omega (arith, told_count tells))) in
     record {
       decoded = call.decoded ++ wrong;
-      equation = λ more follows. call.resumes.equation more follows ∙ sym (append_assoc call.decoded wrong (to_come b (drop n src ++ more)));
+      equation = λ more follows. call.resumes.equation more follows ∙ sym (append_assoc call.decoded wrong (to_come b.place (drop n src ++ more)));
       text =
           ap (λ (l : List ℕ). owed a ++ l) (text-append call.decoded wrong ∙ (ap (λ (l : List ℕ). l ++ text wrong) written ∙ ap (λ (l : List ℕ). second ++ l) (told_text tells ∙ behind)))
           ∙ (ap (λ (l : List ℕ). l ++ (second ++ (if owes then replacement else []))) (sym paid)
@@ -133,8 +133,8 @@ replaces_more last a b c src n m one two whole s t first second joins =
       equation = λ more follows.
           first.equation more follows
           ∙ (ap (λ (l : List (Item × ℕ)). first.decoded ++ l) (second.equation more follows)
-          ∙ (sym (append_assoc first.decoded second.decoded (to_come c (drop m (drop n src) ++ more)))
-          ∙ ap (λ (l : List ℕ). (first.decoded ++ second.decoded) ++ to_come c (l ++ more)) (drop-drop m n src)));
+          ∙ (sym (append_assoc first.decoded second.decoded (to_come c.place (drop m (drop n src) ++ more)))
+          ∙ ap (λ (l : List ℕ). (first.decoded ++ second.decoded) ++ to_come c.place (l ++ more)) (drop-drop m n src)));
       text =
           ap (λ (l : List ℕ). owed a ++ l) (text-append first.decoded second.decoded)
           ∙ (sym (append_assoc (owed a) (text first.decoded) (text second.decoded))
@@ -158,7 +158,7 @@ replaces_more last a b c src n m one two whole s t first second joins =
           (owed_within last a b src n one s first) (owed_within last b c (drop n src) m two t second) s t (sym first.some_replaced) (sym second.some_replaced)
           ∙ ap (λ k. nat_lt (owed_count c) (k + owed_count a)) (sym (malformed_count-append first.decoded second.decoded));
       same_encoding = λ more follows.
-          first.same_encoding more follows ∙ (second.same_encoding more follows ∙ ap (λ (l : List ℕ). encoding_to_come c (l ++ more)) (drop-drop m n src));
+          first.same_encoding more follows ∙ (second.same_encoding more follows ∙ ap (λ (l : List ℕ). encoding_to_come c.place (l ++ more)) (drop-drop m n src));
       same_indexes = second.same_indexes ∙ first.same_indexes;
     }
 
@@ -166,7 +166,7 @@ replaces_more last a b c src n m one two whole s t first second joins =
 pub replaces_text : (last : Bool) (a b : DecoderStanding) (src : List ℕ) (n : ℕ) (written : List ℕ) (replaced : Bool) → Replaces last a b src n written replaced
     → (more : List ℕ) → MayFollow last more → text_to_come a (src ++ more) ≡ written ++ text_to_come b (drop n src ++ more)
 replaces_text last a b src n written replaced call more follows =
-    let later = to_come b (drop n src ++ more) in
+    let later = to_come b.place (drop n src ++ more) in
     ap (λ (l : List (Item × ℕ)). owed a ++ text l) (call.equation more follows)
     ∙ (ap (λ (l : List ℕ). owed a ++ l) (text-append call.decoded later)
     ∙ (sym (append_assoc (owed a) (text call.decoded) (text later))

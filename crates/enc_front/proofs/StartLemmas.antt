@@ -1,20 +1,21 @@
 -- The start of a stream: what is to come before and behind a look at a byte.
-use Rattle.std.proofs.Common.{◌≡◌, ℕ, ◌+◌, ◌≤◌, ◌<◌, Bool, List, [], ◌∷◌, ◌++◌, length, refl, ap, sym, ◌∙◌, arith, length-append, inl, inr, true, false}
+use Rattle.std.proofs.Common.{◌≡◌, ℕ, ◌≤◌, ◌<◌, Bool, List, [], ◌∷◌, ◌++◌, refl, ap, sym, ◌∙◌, arith, inl, inr, true, false}
 use Rattle.std.proofs.Math.Nat.{eq-or-lt_of_le}
-use Rattle.enc_drivers.specs.declared.Item.{Item}
-use Rattle.enc_drivers.specs.declared.Mode.{Mode}
-use Rattle.enc_drivers.specs.declared.Mode.TheVariants.{Plain}
-use Rattle.enc_front.specs.declared.names.Encoding.{Encoding}
-use Rattle.enc_front.specs.declared.names.Encoding.TheVariants as name
-use Rattle.enc_front.specs.declared.start.MarkPart.{MarkPart}
-use Rattle.enc_front.specs.declared.start.MarkPart.TheVariants.{Ef, EfBb, Fe, Ff}
-use Rattle.enc_front.specs.declared.start.Start.{Start}
-use Rattle.enc_front.specs.declared.start.Start.TheVariants.{Any, Own, Seen, Over}
-use Rattle.enc_front.specs.declared.start.Look.TheVariants.{Mark, Other}
-use Rattle.enc_front.specs.Decoding.{HoldsMark, DecoderMayHold}
+use Rattle.enc_drivers.specs.declared.unit.Item.{Item}
+use Rattle.enc_drivers.specs.declared.unit.Mode.{Mode}
+use Rattle.enc_drivers.specs.declared.unit.Mode.TheVariants.{Plain}
+use Rattle.enc_front.specs.declared.encoding.Encoding.{Encoding}
+use Rattle.enc_front.specs.declared.encoding.Encoding.TheVariants as name
+use Rattle.enc_front.specs.declared.mark.MarkPart.{MarkPart}
+use Rattle.enc_front.specs.declared.mark.MarkPart.TheVariants.{Ef, EfBb, Fe, Ff}
+use Rattle.enc_front.specs.declared.mark.Start.{Start}
+use Rattle.enc_front.specs.declared.mark.Start.TheVariants.{Any, Own, Seen, Over}
+use Rattle.enc_front.specs.declared.mark.Look.TheVariants.{Mark, Other}
+use Rattle.enc_front.specs.DecoderCalls.{HoldsMark, DecoderMayHold}
 use Rattle.enc_front.specs.Indexes.{Indexes}
-use Rattle.enc_front.specs.LifeCycle.{held_at, mode_at}
-use Rattle.enc_front.specs.Standing.{no_mark, any_mark, past_mark, units_past_mark}
+use Rattle.enc_front.specs.DecoderView.{held_at, mode_at}
+use Rattle.enc_front.specs.Decoder.{no_mark, any_mark, past_mark, units_past_mark}
+use Rattle.enc_front.specs.Lemmas.Held.{few_bytes}
 use Rattle.enc_front.specs.Start.{part_bytes, marks_at, LooksAt}
 
 -- what is to come at a start
@@ -97,27 +98,21 @@ nothing_follows f g rest more none end same =
     ap f is ∙ (same ∙ ap g (sym is))
 
 -- a part of a mark may be held
-holds_mark : (indexes : Indexes) (encoding : Encoding) (owes finished : Bool) (part : MarkPart)
-    → HoldsMark (record { indexes = indexes; encoding = encoding; marks = any_mark; held = part_bytes part; mode = Plain; owes = owes; finished = finished })
+holds_mark : (indexes : Indexes) (encoding : Encoding) (part : MarkPart)
+    → HoldsMark (record { indexes = indexes; encoding = encoding; marks = any_mark; held = part_bytes part; mode = Plain })
 unfolding past_mark
-holds_mark indexes encoding owes finished Ef = record { encoding = name.Utf8; rest = 0xBB ∷ 0xBF ∷ []; some = omega arith; mark = refl; removed = refl }
-holds_mark indexes encoding owes finished EfBb = record { encoding = name.Utf8; rest = 0xBF ∷ []; some = omega arith; mark = refl; removed = refl }
-holds_mark indexes encoding owes finished Fe = record { encoding = name.Utf16Be; rest = 0xFF ∷ []; some = omega arith; mark = refl; removed = refl }
-holds_mark indexes encoding owes finished Ff = record { encoding = name.Utf16Le; rest = 0xFE ∷ []; some = omega arith; mark = refl; removed = refl }
+holds_mark indexes encoding Ef = record { encoding = name.Utf8; rest = 0xBB ∷ 0xBF ∷ []; some = omega arith; mark = refl; removed = refl }
+holds_mark indexes encoding EfBb = record { encoding = name.Utf8; rest = 0xBF ∷ []; some = omega arith; mark = refl; removed = refl }
+holds_mark indexes encoding Fe = record { encoding = name.Utf16Be; rest = 0xFF ∷ []; some = omega arith; mark = refl; removed = refl }
+holds_mark indexes encoding Ff = record { encoding = name.Utf16Le; rest = 0xFE ∷ []; some = omega arith; mark = refl; removed = refl }
 
-few_bytes : (part : MarkPart) → length (part_bytes part) ≤ 3
-few_bytes Ef = omega arith
-few_bytes EfBb = omega arith
-few_bytes Fe = omega arith
-few_bytes Ff = omega arith
-
-pub may_hold_start : (indexes : Indexes) (encoding : Encoding) (owes finished last : Bool) (start : Start) (held : List ℕ) (mode : Mode) → ¬ (start ≡ Over) → last ≡ false
-    → DecoderMayHold last (record { indexes = indexes; encoding = encoding; marks = marks_at start; held = held_at start held; mode = mode_at start mode; owes = owes; finished = finished })
-may_hold_start indexes encoding owes finished last Any held mode ne e = record { few = omega arith; end = λ h. refl; undecided = inl refl }
-may_hold_start indexes encoding owes finished last Own held mode ne e = record { few = omega arith; end = λ h. refl; undecided = inl refl }
-may_hold_start indexes encoding owes finished last (Seen part) held mode ne e =
-    record { few = few_bytes part; end = λ h. cc; undecided = inr (inl (holds_mark indexes encoding owes finished part)) }
-may_hold_start indexes encoding owes finished last Over held mode ne e = absurd (ne refl)
+pub may_hold_start : (indexes : Indexes) (encoding : Encoding) (last : Bool) (start : Start) (held : List ℕ) (mode : Mode) → ¬ (start ≡ Over) → last ≡ false
+    → DecoderMayHold last (record { indexes = indexes; encoding = encoding; marks = marks_at start; held = held_at start held; mode = mode_at start mode })
+may_hold_start indexes encoding last Any held mode ne e = record { few = omega arith; end = λ h. refl; undecided = inl refl }
+may_hold_start indexes encoding last Own held mode ne e = record { few = omega arith; end = λ h. refl; undecided = inl refl }
+may_hold_start indexes encoding last (Seen part) held mode ne e =
+    record { few = few_bytes part; end = λ h. cc; undecided = inr (inl (holds_mark indexes encoding part)) }
+may_hold_start indexes encoding last Over held mode ne e = absurd (ne refl)
 
 -- no mark is removed only behind the start
 pub start_over : (start : Start) → marks_at start ≡ no_mark → start ≡ Over
@@ -134,9 +129,3 @@ all_read start read n ne within refused =
 pub not_last : (start : Start) (last : Bool) → ¬ (start ≡ Over) → (last ≡ true → marks_at start ≡ no_mark) → last ≡ false
 not_last start true ne ended = absurd (ne (start_over start (ended refl)))
 not_last start false ne ended = refl
-
-pub few_held : (start : Start) (a replay : List ℕ) → length a + length replay ≤ 3 → length (held_at start (a ++ replay)) ≤ 3
-few_held Any a replay few = omega arith
-few_held Own a replay few = omega arith
-few_held (Seen part) a replay few = few_bytes part
-few_held Over a replay few = omega (arith, length-append a replay)

@@ -1,6 +1,6 @@
 -- The text of bytes is UTF-8, and what one call writes that has room for all.
 use Rattle.std.proofs.Common.{◌≡◌, ℕ, zero, suc, ◌+◌, ◌-◌, ◌*◌, ◌<◌, ◌≤◌, Bool, true, false, cond, List, [], ◌∷◌, ◌++◌, length, drop, refl, ap, sym, ◌∙◌, arith, length-drop}
-use Rattle.std.specs.Prelude.{Option, Some, None, nat_eq, take, IsTrue}
+use Rattle.std.specs.Prelude.{Option, Some, None, nat_eq, take}
 use Rattle.std.specs.List.{starts_with}
 use Rattle.std.specs.Option.{option_map_or}
 use Rattle.std.specs.Str.{IsUtf8}
@@ -9,22 +9,24 @@ use Rattle.std.proofs.lemmas.List.Elements.{All-drop}
 use Rattle.std.proofs.lemmas.Str.{IsUtf8-nil, IsUtf8-encode, IsUtf8-append}
 use Rattle.enc_handles.specs.declared.results.CoderResult.{CoderResult}
 use Rattle.enc_handles.specs.declared.results.CoderResult.TheVariants as coder
-use Rattle.enc_drivers.specs.declared.Item.{Item}
-use Rattle.enc_drivers.specs.declared.Item.TheVariants as item
-use Rattle.enc_drivers.specs.declared.Mode.{Mode}
-use Rattle.enc_drivers.specs.declared.Mode.TheVariants.{Plain}
+use Rattle.enc_drivers.specs.declared.unit.Item.{Item}
+use Rattle.enc_drivers.specs.declared.unit.Item.TheVariants as item
+use Rattle.enc_drivers.specs.declared.unit.Mode.{Mode}
+use Rattle.enc_drivers.specs.declared.unit.Mode.TheVariants.{Plain}
 use Rattle.enc_drivers.specs.Lemmas.Scalars.{scalar_low, scalar_high}
 use Rattle.enc_drivers.specs.Units.{Code, IsCode, AreBytes, HasScalars, units, text, item_text, replacement}
 use Rattle.enc_drivers.proofs.UnitLemmas.{units_nil, units_some, text-cons, text_nil}
-use Rattle.enc_front.specs.declared.names.Encoding.{Encoding}
-use Rattle.enc_front.specs.declared.names.Encoding.TheVariants.{Utf8, Utf16Be, Utf16Le, Windows1252, UserDefined, Single, Iso8859_8I, Gbk, Gb18030, Big5, EucJp, ShiftJis, EucKr}
-use Rattle.enc_front.specs.Charsets.{marked_text}
-use Rattle.enc_front.specs.Indexes.{is_built_in, known}
-use Rattle.enc_front.specs.LifeCycle.{fresh}
+use Rattle.enc_front.specs.declared.encoding.Encoding.{Encoding}
+use Rattle.enc_front.specs.declared.encoding.Encoding.TheVariants.{Utf8, Utf16Be, Utf16Le}
+use Rattle.enc_front.specs.declared.tables.Tables.{Tables}
+use Rattle.enc_front.specs.Charset.{marked_text}
+use Rattle.enc_front.specs.Indexes.{Indexes, indexes_of}
+use Rattle.enc_front.specs.DecoderView.{fresh}
 use Rattle.enc_front.specs.Marks.{mark_of}
-use Rattle.enc_front.specs.Standing.{Marks, any_mark, own_mark, no_mark, DecoderStanding, past_mark, text_to_come}
+use Rattle.enc_front.specs.Decoder.{Marks, any_mark, own_mark, no_mark, DecoderStanding, past_mark, text_to_come}
 use Rattle.enc_front.specs.Units.{unit, decoded}
-use Rattle.enc_front.proofs.Reading.{built_in_code, replacement_is}
+use Rattle.enc_front.proofs.AsciiLemmas.{replacement_is}
+use Rattle.enc_front.proofs.UnitLaws.{encoding_code}
 
 item_utf_8 : (i : Item) → HasScalars i → IsUtf8 (item_text i)
 item_utf_8 (item.One scalar) h = IsUtf8-encode scalar h
@@ -45,25 +47,25 @@ module _ (code : Code) (law : IsCode code) where
       rw (units_some code law mode (x ∷ bytes) are (omega arith), text-cons (u.item, u.len) (units code u.next (drop u.len (x ∷ bytes))))
       (IsUtf8-append (item_text u.item) (text (units code u.next (drop u.len (x ∷ bytes)))) (item_utf_8 u.item each.scalars) rest)
 
-decoded_utf_8 : (encoding : Encoding) (bytes : List ℕ) → is_built_in encoding ≡ true → AreBytes bytes → IsUtf8 (decoded encoding [] bytes)
+decoded_utf_8 : (tables : Tables) (encoding : Encoding) (bytes : List ℕ) → AreBytes bytes → IsUtf8 (decoded encoding (indexes_of tables) bytes)
 unfolding decoded
-decoded_utf_8 encoding bytes built_in are = text_within (unit encoding []) (built_in_code encoding [] built_in) (length bytes) Plain bytes are (omega arith)
+decoded_utf_8 tables encoding bytes are = text_within (unit encoding (indexes_of tables)) (encoding_code tables encoding) (length bytes) Plain bytes are (omega arith)
 
 -- a mark by the tests for it
 abbrev found : Bool → Bool → Bool → Option (Encoding × ℕ)
 found a b c = cond a (Some (Utf8, 3)) (cond b (Some (Utf16Be, 2)) (cond c (Some (Utf16Le, 2)) None))
 
--- the text of bytes in a built-in encoding is UTF-8
-pub marked_utf_8 : (encoding : Encoding) (bytes : List ℕ) → is_built_in encoding ≡ true → AreBytes bytes → IsUtf8 (marked_text encoding [] bytes)
+-- the text of bytes is UTF-8
+pub marked_utf_8 : (tables : Tables) (encoding : Encoding) (bytes : List ℕ) → AreBytes bytes → IsUtf8 (marked_text encoding (indexes_of tables) bytes)
 unfolding marked_text
-marked_utf_8 encoding bytes built_in are =
+marked_utf_8 tables encoding bytes are =
     by_mark (starts_with nat_eq bytes (mark_of Utf8)) (starts_with nat_eq bytes (mark_of Utf16Be)) (starts_with nat_eq bytes (mark_of Utf16Le))
   where
-    by_mark : (a b c : Bool) → IsUtf8 (decoded (option_map_or (λ m. m.0) (found a b c) encoding) [] (option_map_or (λ m. drop m.1 bytes) (found a b c) bytes))
-    by_mark true b c = decoded_utf_8 Utf8 (drop 3 bytes) refl (All-drop (λ x. x < 256) 3 bytes are)
-    by_mark false true c = decoded_utf_8 Utf16Be (drop 2 bytes) refl (All-drop (λ x. x < 256) 2 bytes are)
-    by_mark false false true = decoded_utf_8 Utf16Le (drop 2 bytes) refl (All-drop (λ x. x < 256) 2 bytes are)
-    by_mark false false false = decoded_utf_8 encoding bytes built_in are
+    by_mark : (a b c : Bool) → IsUtf8 (decoded (option_map_or (λ m. m.0) (found a b c) encoding) (indexes_of tables) (option_map_or (λ m. drop m.1 bytes) (found a b c) bytes))
+    by_mark true b c = decoded_utf_8 tables Utf8 (drop 3 bytes) (All-drop (λ x. x < 256) 3 bytes are)
+    by_mark false true c = decoded_utf_8 tables Utf16Be (drop 2 bytes) (All-drop (λ x. x < 256) 2 bytes are)
+    by_mark false false true = decoded_utf_8 tables Utf16Le (drop 2 bytes) (All-drop (λ x. x < 256) 2 bytes are)
+    by_mark false false false = decoded_utf_8 tables encoding bytes are
 
 own_nothing : (encoding : Encoding) → (past_mark own_mark encoding []).1 ≡ []
 unfolding past_mark
@@ -79,24 +81,24 @@ nothing_past own_mark encoding = own_nothing encoding
 nothing_past no_mark encoding = refl
 
 -- at the end nothing is to come
-nothing_to_come : (at : DecoderStanding) (rest : List ℕ) → rest ≡ [] → at.held ≡ [] → at.owes ≡ false → text_to_come at rest ≡ []
+nothing_to_come : (at : DecoderStanding) (rest : List ℕ) → rest ≡ [] → at.place.held ≡ [] → at.owes ≡ false → text_to_come at rest ≡ []
 nothing_to_come at rest none held owes =
-    let bytes : at.held ++ rest ≡ [] = ap (λ (l : List ℕ). l ++ rest) held ∙ none in
-    let past : (past_mark at.marks at.encoding (at.held ++ rest)).1 ≡ [] = rw bytes (nothing_past at.marks at.encoding) in
-    let code = unit (past_mark at.marks at.encoding (at.held ++ rest)).0 at.indexes in
-    let text_none : text (units code at.mode (past_mark at.marks at.encoding (at.held ++ rest)).1) ≡ [] =
-    ap (λ (l : List ℕ). text (units code at.mode l)) past ∙ (ap text (units_nil code at.mode) ∙ text_nil) in
-    ap (λ (t : Bool). cond t replacement [] ++ text (units code at.mode (past_mark at.marks at.encoding (at.held ++ rest)).1)) owes ∙ text_none
+    let bytes : at.place.held ++ rest ≡ [] = ap (λ (l : List ℕ). l ++ rest) held ∙ none in
+    let past : (past_mark at.place.marks at.place.encoding (at.place.held ++ rest)).1 ≡ [] = rw bytes (nothing_past at.place.marks at.place.encoding) in
+    let code = unit (past_mark at.place.marks at.place.encoding (at.place.held ++ rest)).0 at.place.indexes in
+    let text_none : text (units code at.place.mode (past_mark at.place.marks at.place.encoding (at.place.held ++ rest)).1) ≡ [] =
+    ap (λ (l : List ℕ). text (units code at.place.mode l)) past ∙ (ap text (units_nil code at.place.mode) ∙ text_nil) in
+    ap (λ (t : Bool). cond t replacement [] ++ text (units code at.place.mode (past_mark at.place.marks at.place.encoding (at.place.held ++ rest)).1)) owes ∙ text_none
 
 -- one call that ends with `last` has written the text of all bytes
-pub whole_text : (encoding : Encoding) (bytes : List ℕ) (start after : DecoderStanding) (read : ℕ) (written : List ℕ)
-    → start ≡ fresh any_mark encoding [] → text_to_come start (bytes ++ []) ≡ written ++ text_to_come after (drop read bytes ++ [])
-    → read ≡ length bytes → after.held ≡ [] → after.owes ≡ false → written ≡ marked_text encoding [] bytes
+pub whole_text : (indexes : Indexes) (encoding : Encoding) (bytes : List ℕ) (start after : DecoderStanding) (read : ℕ) (written : List ℕ)
+    → start ≡ fresh any_mark encoding indexes → text_to_come start (bytes ++ []) ≡ written ++ text_to_come after (drop read bytes ++ [])
+    → read ≡ length bytes → after.place.held ≡ [] → after.owes ≡ false → written ≡ marked_text encoding indexes bytes
 unfolding marked_text decoded past_mark
-whole_text encoding bytes start after read written is text_is all held owes =
+whole_text indexes encoding bytes start after read written is text_is all held owes =
     let rest : drop read bytes ++ [] ≡ [] = append-nil (drop read bytes) ∙ nil_from_length (drop read bytes) (omega (arith, length-drop read bytes)) in
     let end = nothing_to_come after (drop read bytes ++ []) rest held owes in
-    sym (ap (λ (l : List ℕ). text_to_come (fresh any_mark encoding []) l) (sym (append-nil bytes)) ∙ (ap (λ (s : DecoderStanding). text_to_come s (bytes ++ [])) (sym is)
+    sym (ap (λ (l : List ℕ). text_to_come (fresh any_mark encoding indexes) l) (sym (append-nil bytes)) ∙ (ap (λ (s : DecoderStanding). text_to_come s (bytes ++ [])) (sym is)
     ∙ (text_is ∙ (ap (λ (l : List ℕ). written ++ l) end ∙ append-nil written))))
 
 pub used_up : (tells : CoderResult) → ¬ (tells ≡ coder.OutputFull) → tells ≡ coder.InputEmpty
@@ -111,19 +113,3 @@ has_room room written held owes held_then owes_then read count is full short non
 -- a front of what was cut to its length
 pub truncated : (written room : ℕ) (dst rest : List ℕ) → written ≤ length dst → length dst ≡ room → take written (take room (dst ++ rest)) ≡ take written dst
 truncated written room dst rest within is = take-take written room (dst ++ rest) (omega arith) ∙ take-append-le written dst rest within
-
--- no index is there, so that what is known is built in
-pub built_in_known : (encoding : Encoding) → IsTrue (known encoding []) → is_built_in encoding ≡ true
-built_in_known Utf8 h = refl
-built_in_known Utf16Be h = refl
-built_in_known Utf16Le h = refl
-built_in_known Windows1252 h = refl
-built_in_known UserDefined h = refl
-built_in_known (Single name) h = cc h
-built_in_known Iso8859_8I h = cc h
-built_in_known Gbk h = cc h
-built_in_known Gb18030 h = cc h
-built_in_known Big5 h = cc h
-built_in_known EucJp h = cc h
-built_in_known ShiftJis h = cc h
-built_in_known EucKr h = cc h

@@ -2,8 +2,8 @@
 use Rattle.std.specs.Prelude.{ℕ, nat_eq, if◌then◌else◌, List, [], ◌∷◌, length, drop, Option, Some, None}
 use Rattle.std.specs.List.{starts_with}
 use Rattle.std.specs.Option.{option_map_or}
-use Rattle.enc_front.specs.declared.names.Encoding.{Encoding}
-use Rattle.enc_front.specs.declared.names.Encoding.TheVariants.{Utf8, Utf16Be, Utf16Le}
+use Rattle.enc_front.specs.declared.encoding.Encoding.{Encoding}
+use Rattle.enc_front.specs.declared.encoding.Encoding.TheVariants.{Utf8, Utf16Be, Utf16Le}
 
 -- the mark of an encoding; only three have one
 abbrev pub mark_of : Encoding → List ℕ

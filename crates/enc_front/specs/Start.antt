@@ -1,14 +1,14 @@
 -- A byte order mark at the front of a stream, byte by byte.
 use Rattle.std.specs.Prelude.{◌≡◌, ℕ, List, [], ◌∷◌, ◌++◌, IsTrue}
-use Rattle.enc_front.specs.declared.names.Encoding.{Encoding}
-use Rattle.enc_front.specs.declared.start.MarkPart.{MarkPart}
-use Rattle.enc_front.specs.declared.start.MarkPart.TheVariants.{Ef, EfBb, Fe, Ff}
-use Rattle.enc_front.specs.declared.start.Start.{Start}
-use Rattle.enc_front.specs.declared.start.Start.TheVariants.{Any, Own, Seen, Over}
-use Rattle.enc_front.specs.declared.start.Look.{Look}
-use Rattle.enc_front.specs.declared.start.Look.TheVariants.{Part, Mark, Other}
+use Rattle.enc_front.specs.declared.encoding.Encoding.{Encoding}
+use Rattle.enc_front.specs.declared.mark.MarkPart.{MarkPart}
+use Rattle.enc_front.specs.declared.mark.MarkPart.TheVariants.{Ef, EfBb, Fe, Ff}
+use Rattle.enc_front.specs.declared.mark.Start.{Start}
+use Rattle.enc_front.specs.declared.mark.Start.TheVariants.{Any, Own, Seen, Over}
+use Rattle.enc_front.specs.declared.mark.Look.{Look}
+use Rattle.enc_front.specs.declared.mark.Look.TheVariants.{Part, Mark, Other}
 use Rattle.enc_front.specs.Indexes.{is_built_in}
-use Rattle.enc_front.specs.Standing.{Marks, any_mark, own_mark, no_mark, past_mark}
+use Rattle.enc_front.specs.Decoder.{Marks, any_mark, own_mark, no_mark, past_mark}
 
 -- the bytes of a part of a mark
 abbrev pub part_bytes : MarkPart → List ℕ

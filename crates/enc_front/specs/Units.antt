@@ -1,33 +1,40 @@
 -- The units of an encoding, and the text of bytes in it.
 use Rattle.std.specs.Prelude.{ℕ, true, false, List}
-use Rattle.enc_front.specs.declared.names.Encoding.{Encoding}
-use Rattle.enc_front.specs.declared.names.Encoding.TheVariants.{Utf8, Utf16Be, Utf16Le, Windows1252, UserDefined, Single, Iso8859_8I, Gbk, Gb18030, Big5, EucJp, ShiftJis, EucKr}
-use Rattle.enc_drivers.specs.declared.Mode.TheVariants.{Plain}
-use Rattle.enc_drivers.specs.Units.{Code, malformed_at, units, text}
-use Rattle.enc_drivers.specs.Utf8.{utf8_unit}
-use Rattle.enc_drivers.specs.Utf16.{utf16_unit}
-use Rattle.enc_drivers.specs.SingleByte.{windows_1252_unit, user_defined_unit}
-use Rattle.enc_front.specs.Indexes.{Indexes}
+use Rattle.enc_drivers.specs.declared.unit.Mode.TheVariants.{Plain}
+use Rattle.enc_drivers.specs.Codes.Big5.{big5_unit}
+use Rattle.enc_drivers.specs.Codes.EucJp.{euc_jp_unit}
+use Rattle.enc_drivers.specs.Codes.EucKr.{euc_kr_unit}
+use Rattle.enc_drivers.specs.Codes.Gb18030.{gb18030_unit}
+use Rattle.enc_drivers.specs.Codes.Iso2022Jp.{iso_2022_jp_unit}
+use Rattle.enc_drivers.specs.Codes.ShiftJis.{shift_jis_unit}
+use Rattle.enc_drivers.specs.Codes.SingleByte.{single_byte_unit}
+use Rattle.enc_drivers.specs.Codes.UserDefined.{user_defined_unit}
+use Rattle.enc_drivers.specs.Codes.Utf16.{utf16_unit}
+use Rattle.enc_drivers.specs.Codes.Utf8.{utf8_unit}
+use Rattle.enc_drivers.specs.Codes.Windows1252.{windows_1252_unit}
+use Rattle.enc_drivers.specs.Units.{Code, units, text}
+use Rattle.enc_front.specs.declared.encoding.Encoding.{Encoding}
+use Rattle.enc_front.specs.declared.encoding.Encoding.TheVariants.{Utf8, Utf16Be, Utf16Le, Windows1252, UserDefined, Single, Iso8859_8I, Gbk, Gb18030, Big5, EucJp, Iso2022Jp, ShiftJis, EucKr}
+use Rattle.enc_front.specs.declared.encoding.SingleName.TheVariants.{Iso8859_8}
+use Rattle.enc_front.specs.declared.tables.IndexKind.TheVariants as kind
+use Rattle.enc_front.specs.Indexes.{Indexes, places_in}
 
--- in place of the units of an encoding that needs an index: tables hold none yet, so no call reads by it
-abbrev pub unknown_unit : Code
-unknown_unit mode rest = malformed_at mode 1
-
--- how an encoding that is known to the indexes finds the unit at the front of a rest; where it is not known, this says nothing
+-- how an encoding finds the unit at the front of a rest, by the indexes that it needs (Encoding Standard, sections 8 to 14)
 abbrev pub unit : Encoding → Indexes → Code
 unit Utf8 indexes = utf8_unit
 unit Utf16Be indexes = utf16_unit true
 unit Utf16Le indexes = utf16_unit false
 unit Windows1252 indexes = windows_1252_unit
 unit UserDefined indexes = user_defined_unit
-unit (Single name) indexes = unknown_unit
-unit Iso8859_8I indexes = unknown_unit
-unit Gbk indexes = unknown_unit
-unit Gb18030 indexes = unknown_unit
-unit Big5 indexes = unknown_unit
-unit EucJp indexes = unknown_unit
-unit ShiftJis indexes = unknown_unit
-unit EucKr indexes = unknown_unit
+unit (Single name) indexes = single_byte_unit (places_in indexes (kind.Single name))
+unit Iso8859_8I indexes = single_byte_unit (places_in indexes (kind.Single Iso8859_8))
+unit Gbk indexes = gb18030_unit (places_in indexes kind.Gb18030) (places_in indexes kind.Gb18030Ranges)
+unit Gb18030 indexes = gb18030_unit (places_in indexes kind.Gb18030) (places_in indexes kind.Gb18030Ranges)
+unit Big5 indexes = big5_unit (places_in indexes kind.Big5)
+unit EucJp indexes = euc_jp_unit (places_in indexes kind.Jis0208) (places_in indexes kind.Jis0212)
+unit Iso2022Jp indexes = iso_2022_jp_unit (places_in indexes kind.Jis0208)
+unit ShiftJis indexes = shift_jis_unit (places_in indexes kind.Jis0208)
+unit EucKr indexes = euc_kr_unit (places_in indexes kind.EucKr)
 
 -- the text of bytes in an encoding, with U+FFFD for each malformed unit
 unfoldable pub decoded : Encoding → Indexes → List ℕ → List ℕ

@@ -1,20 +1,19 @@
 //! Encodings by name and label, and the text of bytes in them, after the Encoding Standard.
 #![tactic(auto)]
 
-mod charsets;
-mod indexes;
-mod life_cycle;
-mod names;
-mod reader;
-mod start;
+mod charset;
+mod decoder;
+mod encoding;
+mod index;
+mod index_file;
+pub mod laws;
+mod mark;
+mod rows;
+mod tables;
 mod variant;
 
-pub use charsets::Charset;
-pub use indexes::{IndexKind, Tables};
-pub use life_cycle::Decoder;
-pub use names::{Encoding, SingleName};
-
-#[cfg(test)]
-mod life_cycle_tests;
-#[cfg(test)]
-mod tests;
+pub use charset::Charset;
+pub use decoder::Decoder;
+pub use encoding::{Encoding, SingleName};
+pub use index_file::{IndexError, read_index};
+pub use tables::{IndexKind, TableError, Tables, Why};

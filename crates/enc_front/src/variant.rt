@@ -1,41 +1,78 @@
 //! The driver of an encoding.
-ghost use Rattle.std.specs.Prelude.{◌≡◌, ℕ, ◌+◌, ◌-◌, ◌*◌, ◌<◌, ◌≤◌, [], length, take, encode_utf8, IsTrue};
-ghost use Rattle.enc_drivers.specs.declared.Mode.{Mode};
-ghost use Rattle.enc_drivers.specs.Resume.{ResumesWriting, MayHold, malformed_of};
-ghost use Rattle.enc_front.specs.Indexes.{is_built_in};
+ghost use Rattle.std.specs.Prelude.{◌≡◌, true, false, encode_utf8, IsTrue};
+ghost use Rattle.enc_drivers.specs.Decodes.{DecodesRaw};
+ghost use Rattle.enc_drivers.specs.Lookup.{HasNoAstral};
+ghost use Rattle.enc_front.specs.DecoderSteps.{at_start};
+ghost use Rattle.enc_front.specs.Index.{index_places, ranges_places};
+ghost use Rattle.enc_front.specs.Indexes.{has_kind, indexes_of, known, places_in};
+ghost use Rattle.enc_front.specs.Kinds.{is_bmp, is_ranges};
 ghost use Rattle.enc_front.specs.Units.{unit};
-ghost use Rattle.enc_front.specs.Variant.{encoding_in, standing_in};
+ghost use Rattle.enc_front.specs.Variant.{unit_in, standing_in};
 
-use crate::names::Encoding;
-use enc_drivers::driver::GeneralDriver;
-use enc_drivers::user_defined::UserDefined;
-use enc_drivers::utf8::Utf8Code;
-use enc_drivers::utf16::Utf16Code;
-use enc_drivers::windows_1252::Windows1252;
+use crate::encoding::{Encoding, SingleName};
+use crate::index::{Index, Ranges};
+use crate::tables::{IndexKind, Tables};
+use enc_drivers::codes::big5::Big5;
+use enc_drivers::codes::euc_jp::EucJp;
+use enc_drivers::codes::euc_kr::EucKr;
+use enc_drivers::codes::gb18030::Gb18030;
+use enc_drivers::codes::iso_2022_jp::Iso2022Jp;
+use enc_drivers::codes::shift_jis::ShiftJis;
+use enc_drivers::codes::single_byte::SingleByte;
+use enc_drivers::codes::user_defined::UserDefined;
+use enc_drivers::codes::utf8::Utf8Code;
+use enc_drivers::codes::utf16::Utf16Code;
+use enc_drivers::codes::windows_1252::Windows1252;
+use enc_drivers::drivers::euc_jp::EucJpDriver;
+use enc_drivers::drivers::gb18030::Gb18030Driver;
+use enc_drivers::drivers::general::GeneralDriver;
+use enc_drivers::drivers::two_byte::TwoByteDriver;
 use enc_handles::endian::{BigEndian, LittleEndian};
 use enc_handles::results::DecoderResult;
 
-/// The driver of one of the encodings.
+// A driver, by its type.
 #[derive(Drop)]
-pub(crate) enum VariantDecoder {
-    /// Of UTF-8.
+pub(crate) enum VariantDecoder<'t> {
     Utf8(GeneralDriver<Utf8Code>),
-    /// Of UTF-16BE.
     Utf16Be(GeneralDriver<Utf16Code<BigEndian>>),
-    /// Of UTF-16LE.
     Utf16Le(GeneralDriver<Utf16Code<LittleEndian>>),
-    /// Of windows-1252.
     Windows1252(GeneralDriver<Windows1252>),
-    /// Of x-user-defined.
     UserDefined(GeneralDriver<UserDefined>),
+    SingleByte(GeneralDriver<SingleByte<'t, Index>>),
+    Big5(TwoByteDriver<Big5<'t, Index>>),
+    EucJp(EucJpDriver<EucJp<'t, Index>>),
+    EucKr(TwoByteDriver<EucKr<'t, Index>>),
+    Gb18030(Gb18030Driver<Gb18030<'t, Index, Ranges>>),
+    Iso2022Jp(GeneralDriver<Iso2022Jp<'t, Index>>),
+    ShiftJis(TwoByteDriver<ShiftJis<'t, Index>>),
 }
 
-impl VariantDecoder {
-    /// The driver of an encoding at the start of a stream.
-    pub(crate) fn new(encoding: Encoding) -> VariantDecoder
-        requires { IsTrue (is_built_in encoding) }
-        ensures same_encoding { encoding_in result ≡ encoding }
-        ensures start { standing_in result ≡ record { held = []; mode = Mode.Plain } }
+// Calls the driver that is there.
+macro_rules! on_driver {
+    ($variant:expr, $driver:ident => $call:expr) => {
+        match $variant {
+            VariantDecoder::Utf8($driver) => $call,
+            VariantDecoder::Utf16Be($driver) => $call,
+            VariantDecoder::Utf16Le($driver) => $call,
+            VariantDecoder::Windows1252($driver) => $call,
+            VariantDecoder::UserDefined($driver) => $call,
+            VariantDecoder::SingleByte($driver) => $call,
+            VariantDecoder::Big5($driver) => $call,
+            VariantDecoder::EucJp($driver) => $call,
+            VariantDecoder::EucKr($driver) => $call,
+            VariantDecoder::Gb18030($driver) => $call,
+            VariantDecoder::Iso2022Jp($driver) => $call,
+            VariantDecoder::ShiftJis($driver) => $call,
+        }
+    };
+}
+
+impl<'t> VariantDecoder<'t> {
+    // The driver of an encoding at the start of a stream.
+    pub(crate) fn new(encoding: Encoding, tables: &'t Tables) -> VariantDecoder<'t>
+        requires { IsTrue (known encoding (indexes_of tables.now)) }
+        ensures same_code { unit_in result ≡ unit encoding (indexes_of tables.now) }
+        ensures start { standing_in result ≡ at_start }
     {
         match encoding {
             Encoding::Utf8 => VariantDecoder::Utf8(GeneralDriver::new(Utf8Code::new())),
@@ -47,54 +84,84 @@ impl VariantDecoder {
             Encoding::UserDefined => {
                 VariantDecoder::UserDefined(GeneralDriver::new(UserDefined::new()))
             }
-            Encoding::Single(_)
-            | Encoding::Iso8859_8I
-            | Encoding::Gbk
-            | Encoding::Gb18030
-            | Encoding::Big5
-            | Encoding::EucJp
-            | Encoding::ShiftJis
-            | Encoding::EucKr => unreachable!(),
+            Encoding::Single(name) => {
+                let index = index_of(tables, IndexKind::Single(name));
+                VariantDecoder::SingleByte(GeneralDriver::new(SingleByte::new(index)))
+            }
+            Encoding::Iso8859_8I => {
+                let index = index_of(tables, IndexKind::Single(SingleName::Iso8859_8));
+                VariantDecoder::SingleByte(GeneralDriver::new(SingleByte::new(index)))
+            }
+            Encoding::Gbk => {
+                let index = index_of(tables, IndexKind::Gb18030);
+                let ranges = ranges_of(tables);
+                let code = Gb18030::new(index, ranges, true);
+                VariantDecoder::Gb18030(Gb18030Driver::new(code))
+            }
+            Encoding::Gb18030 => {
+                let index = index_of(tables, IndexKind::Gb18030);
+                let ranges = ranges_of(tables);
+                let code = Gb18030::new(index, ranges, false);
+                VariantDecoder::Gb18030(Gb18030Driver::new(code))
+            }
+            Encoding::Big5 => {
+                let index = index_of(tables, IndexKind::Big5);
+                VariantDecoder::Big5(TwoByteDriver::new(Big5::new(index)))
+            }
+            Encoding::EucJp => {
+                let jis0208 = index_of(tables, IndexKind::Jis0208);
+                let jis0212 = index_of(tables, IndexKind::Jis0212);
+                VariantDecoder::EucJp(EucJpDriver::new(EucJp::new(jis0208, jis0212)))
+            }
+            Encoding::Iso2022Jp => {
+                let jis0208 = index_of(tables, IndexKind::Jis0208);
+                VariantDecoder::Iso2022Jp(GeneralDriver::new(Iso2022Jp::new(jis0208)))
+            }
+            Encoding::ShiftJis => {
+                let index = index_of(tables, IndexKind::Jis0208);
+                VariantDecoder::ShiftJis(TwoByteDriver::new(ShiftJis::new(index)))
+            }
+            Encoding::EucKr => {
+                let index = index_of(tables, IndexKind::EucKr);
+                VariantDecoder::EucKr(TwoByteDriver::new(EucKr::new(index)))
+            }
         }
     }
 
-    /// The encoding.
-    pub(crate) fn encoding(&self) -> Encoding
-        ensures { result ≡ encoding_in self.now }
-    {
-        match self {
-            VariantDecoder::Utf8(_) => Encoding::Utf8,
-            VariantDecoder::Utf16Be(_) => Encoding::Utf16Be,
-            VariantDecoder::Utf16Le(_) => Encoding::Utf16Le,
-            VariantDecoder::Windows1252(_) => Encoding::Windows1252,
-            VariantDecoder::UserDefined(_) => Encoding::UserDefined,
-        }
-    }
-
-    /// Decodes to UTF-8, as the driver does.
+    // Decodes to UTF-8, as the driver does.
     pub(crate) fn decode_to_utf8_raw(
         &mut self,
         src: &[u8],
         dst: &mut [u8],
         last: bool,
     ) -> (DecoderResult, usize, usize)
-        ensures resumes { ResumesWriting (unit (encoding_in self.old) []) encode_utf8 last (standing_in self.old) (standing_in self.new) src.now result.1
-            (take result.2 dst.new) (malformed_of result.0) }
-        ensures read { result.1 ≤ length src.now }
-        ensures written { result.2 ≤ length dst.new }
-        ensures len { length dst.new ≡ length dst.old }
-        ensures few { length (standing_in self.new).held ≤ 3 }
-        ensures input_empty { result.0 ≡ DecoderResult.InputEmpty → (result.1 ≡ length src.now) × MayHold (unit (encoding_in self.old) []) last (standing_in self.new) }
-        ensures output_full { result.0 ≡ DecoderResult.OutputFull → length dst.new - result.2 < 4 }
-        ensures malformed { (n k : ℕ) → result.0 ≡ DecoderResult.Malformed n k → k ≡ length (standing_in self.new).held }
-        ensures same_encoding { encoding_in self.new ≡ encoding_in self.old }
+        ensures { DecodesRaw (unit_in self.old) (unit_in self.new) encode_utf8 4 last
+            (standing_in self.old) (standing_in self.new) src.now dst.old dst.new result }
     {
-        match self {
-            VariantDecoder::Utf8(driver) => driver.decode_to_utf8_raw(src, dst, last),
-            VariantDecoder::Utf16Be(driver) => driver.decode_to_utf8_raw(src, dst, last),
-            VariantDecoder::Utf16Le(driver) => driver.decode_to_utf8_raw(src, dst, last),
-            VariantDecoder::Windows1252(driver) => driver.decode_to_utf8_raw(src, dst, last),
-            VariantDecoder::UserDefined(driver) => driver.decode_to_utf8_raw(src, dst, last),
-        }
+        on_driver!(self, driver => driver.decode_to_utf8_raw(src, dst, last))
+    }
+}
+
+// The index of a kind, which is there.
+fn index_of(tables: &Tables, kind: IndexKind) -> &Index
+    requires flat { is_ranges kind ≡ false }
+    requires there { has_kind (indexes_of tables.now) kind ≡ true }
+    ensures index { index_places result.now ≡ places_in (indexes_of tables.now) kind }
+    ensures bmp { is_bmp kind ≡ true → HasNoAstral (index_places result.now) }
+{
+    match tables.index(kind) {
+        Some(index) => index,
+        None => unreachable!(),
+    }
+}
+
+// The ranges, which are there.
+fn ranges_of(tables: &Tables) -> &Ranges
+    requires { has_kind (indexes_of tables.now) IndexKind.Gb18030Ranges ≡ true }
+    ensures { ranges_places result.now ≡ places_in (indexes_of tables.now) IndexKind.Gb18030Ranges }
+{
+    match tables.ranges() {
+        Some(ranges) => ranges,
+        None => unreachable!(),
     }
 }

@@ -1,0 +1,77 @@
+use Rattle.std.proofs.Common.{length, length-drop, ap, sym, ◌∙◌, arith, rules}
+use Rattle.std.specs.Prelude.{◌&&◌}
+use Rattle.std.proofs.lemmas.List.{take_rest}
+use Rattle.enc_front.specs.DecoderCalls.{is_input_empty}
+use Rattle.enc_front.specs.Lemmas.Held.{few_held}
+use Rattle.enc_front.proofs.CallLemmas.{written_more}
+use Rattle.enc_front.proofs.ReplaceLemmas.{replaces_nothing, replaces_more, replaces_text, and_false}
+use Rattle.enc_front.proofs.decoder.Decoder.decode_to_utf8.Goals as goal
+
+pub loop-init : goal.loop-init
+loop-init c = record {
+  replaces = replaces_nothing _ _ _;
+  read = omega arith;
+  written = omega arith;
+  short = omega arith;
+  unfinished = c.requires;
+}
+
+pub loop-preserved : goal.loop-preserved
+loop-preserved c =
+    let so_far = c.loop.invariant in
+    let call = c.turn-result.ensures in
+    let rest = ap length (take_rest c.args.src.now c.loop.read) ∙ length-drop c.loop.read c.args.src.now in
+    record {
+      replaces = replaces_more _ _ _ _ _ _ _ _ _ _ _ _ so_far.replaces (rw (take_rest c.args.src.now c.loop.read) at call.replaces)
+          (written_more _ _ _ _ so_far.written call.written);
+      read = omega (arith, so_far.read, call.read, rest);
+      written = search rules;
+      short = omega (arith, so_far.short, call.short);
+      unfinished = call.end ∙ (ap (λ r. c.args.last && is_input_empty r) c.in-Malformed.is ∙ sym (and_false c.args.last));
+    }
+
+pub returns-in-InputEmpty : goal.returns-in-InputEmpty
+returns-in-InputEmpty c =
+    let so_far = c.loop.invariant in
+    let call = c.turn-result.ensures in
+    let rest = ap length (take_rest c.args.src.now c.loop.read) ∙ length-drop c.loop.read c.args.src.now in
+    let replaces = replaces_more _ _ _ _ _ _ _ _ _ _ _ _ so_far.replaces (rw (take_rest c.args.src.now c.loop.read) at call.replaces)
+    (written_more _ _ _ _ so_far.written call.written) in
+    record {
+      replaces = replaces;
+      text = replaces_text _ _ _ _ _ _ _ replaces;
+      read = omega (arith, so_far.read, call.read, rest);
+      written = search rules;
+      len = search rules;
+      few = few_held c.turn-result.new.self;
+      short = omega (arith, so_far.short, call.short);
+      input_empty = λ e. let all = call.input_empty c.in-InputEmpty.is in (omega (arith, so_far.read, all.0, rest), all.1, all.2);
+      output_full = λ e. cc e;
+      pending = λ e. cc e;
+      owed = λ o. cc (sym o ∙ (call.input_empty c.in-InputEmpty.is).1);
+      goes_on = λ wide none. let all = call.input_empty c.in-InputEmpty.is in omega (arith, so_far.read, all.0, rest);
+      end = call.end ∙ ap (λ r. c.args.last && is_input_empty r) c.in-InputEmpty.is;
+    }
+
+pub returns-in-OutputFull : goal.returns-in-OutputFull
+returns-in-OutputFull c =
+    let so_far = c.loop.invariant in
+    let call = c.turn-result.ensures in
+    let rest = ap length (take_rest c.args.src.now c.loop.read) ∙ length-drop c.loop.read c.args.src.now in
+    let replaces = replaces_more _ _ _ _ _ _ _ _ _ _ _ _ so_far.replaces (rw (take_rest c.args.src.now c.loop.read) at call.replaces)
+    (written_more _ _ _ _ so_far.written call.written) in
+    record {
+      replaces = replaces;
+      text = replaces_text _ _ _ _ _ _ _ replaces;
+      read = omega (arith, so_far.read, call.read, rest);
+      written = search rules;
+      len = search rules;
+      few = few_held c.turn-result.new.self;
+      short = omega (arith, so_far.short, call.short);
+      input_empty = λ e. cc e;
+      output_full = λ e. search rules;
+      pending = λ e. let some = call.pending c.in-OutputFull.is in omega (arith, so_far.read, call.read, rest, some);
+      owed = λ o. search rules;
+      goes_on = λ wide none. search rules;
+      end = call.end ∙ ap (λ r. c.args.last && is_input_empty r) c.in-OutputFull.is;
+    }

@@ -1,0 +1,31 @@
+use Rattle.std.proofs.Common.{◌≡◌, ◌++◌, [], drop, ap, sym, ◌∙◌, arith, length-drop}
+use Rattle.std.proofs.lemmas.List.{nil_from_length}
+use Rattle.std.proofs.lemmas.List.Elements.{All-nil}
+use Rattle.enc_front.specs.Decoder.{DecoderPlace, to_come, encoding_to_come}
+use Rattle.enc_front.specs.DecoderView.{place_of}
+use Rattle.enc_front.specs.Variant.{standing_in}
+use Rattle.enc_front.proofs.StartLemmas.{end_to_come, end_encoding, nothing_follows}
+use Rattle.enc_front.proofs.decoder.Decoder.look_for_mark.Goals as goal
+
+pub returns-then-last-clause-resumes : goal.returns-then-last-clause-resumes
+returns-then-last-clause-resumes c =
+    let i = c.loop-byte.byte-index in
+    let src = c.args.src.now in
+    let before = place_of c.loop-byte.self in
+    let after = place_of c.end_start.new.self in
+    let held = (standing_in c.loop-byte.self.variant).held ++ c.loop-byte.self.replay.now in
+    let nothing : drop i src ≡ [] = nil_from_length (drop i src) (omega (arith, length-drop i src, c.loop-byte-test.false)) in
+    let end = end_to_come _ _ held (standing_in c.loop-byte.self.variant).mode c.loop-byte.self.start
+    ∙ sym (ap (λ (s : DecoderPlace). to_come s []) c.end_start.ensures.place) in
+    let end_of_encoding = end_encoding _ held c.loop-byte.self.start
+    ∙ sym (ap (λ (s : DecoderPlace). encoding_to_come s []) c.end_start.ensures.place) in
+    record {
+      well_formed = All-nil _;
+      equation = λ more follows. c.loop-byte.invariant.same more
+          ∙ (nothing_follows (λ bytes. to_come before bytes) (λ bytes. to_come after bytes) (drop i src) more nothing (follows.none c.if-last.true) end
+          ∙ ap (λ k. to_come after (drop k src ++ more)) (sym c.loop-byte.invariant.count));
+      same_encoding = λ more follows. c.loop-byte.invariant.same_encoding more
+          ∙ (nothing_follows (λ bytes. encoding_to_come before bytes) (λ bytes. encoding_to_come after bytes) (drop i src) more nothing (follows.none c.if-last.true) end_of_encoding
+          ∙ ap (λ k. encoding_to_come after (drop k src ++ more)) (sym c.loop-byte.invariant.count));
+      same_indexes = ap (λ (s : DecoderPlace). s.indexes) c.end_start.ensures.place ∙ c.loop-byte.invariant.same_indexes;
+    }
