@@ -1,2 +1,6 @@
-mod Moves
-mod PeekerLemmas
+pub mod ChoiceLemmas
+pub mod JoinedLemmas
+pub mod Moves
+pub mod PeekerLemmas
+pub mod PieceLemmas
+pub mod ReaderLemmas

@@ -1,18 +1,20 @@
 -- What the calls of a reader behind a mark do.
-use Rattle.std.proofs.Common.{◌≡◌, ℕ, ◌+◌, ◌-◌, ◌<◌, ◌≤◌, Bool, true, false, true≢false, nat_lt, if◌then◌else◌, List, [], ◌∷◌, ◌++◌, length, take, drop, replicate, None, Some, Ok, Err, Result, IfOk, subst, sym, ap, refl, ◌∙◌, arith, append_assoc, append-nil, take-append-drop, length-take, length-take-le}
+use Rattle.std.proofs.Common.{◌≡◌, ℕ, ◌+◌, ◌-◌, ◌<◌, ◌≤◌, Bool, true, false, true≢false, nat_lt, if◌then◌else◌, List, [], ◌∷◌, ◌++◌, length, take, drop, replicate, None, Some, Ok, Err, Result, IfOk, subst, sym, ap, refl, ◌∙◌, arith, append_assoc, append-nil, take-append-drop, length-take, length-take-le, length-drop}
 use Rattle.std.specs.declared.option.Option.{Option}
 use Rattle.std.specs.Option.{option_map_or, ForSome}
 use Rattle.std.specs.Io.KnownBytes.{Consumes, Keeps, IsAtEnd, ReadConsumes}
 use Rattle.std.proofs.KnownBytes.{Consumes-trans, Consumes-nil}
 use Rattle.std.proofs.lemmas.List.{drop-drop, take-append-le, drop-append-le, drop-replicate, drop-take, take_all}
+use Rattle.std.proofs.lemmas.List.Elements.{All-nil, All-take, All-drop, All-append}
 use Rattle.std.proofs.Math.Seq.{drop-append_seam, drop-length}
 use Rattle.std.proofs.lemmas.Bool.{ltb-false}
 use Rattle.std.proofs.lemmas.Slice.{drop-put_mid}
 use borrow.Rule.Slice.PartMut.{put_mid}
-use Rattle.enc_front.specs.declared.names.Encoding.{Encoding}
+use Rattle.enc_front.specs.declared.encoding.Encoding.{Encoding}
 use Rattle.enc_front.specs.Marks.{mark}
 use Rattle.enc_io.specs.Marks.{front_length}
-use Rattle.enc_io.specs.Peeker.{PeekerStanding, PeekerMoves, HasGivenAll, stream_bytes, still, still_known, given_by}
+use Rattle.enc_drivers.specs.Units.{AreBytes}
+use Rattle.enc_io.specs.Peeker.{PeekerStanding, PeekerMoves, Gathers, GivesNext, HasGivenAll, stream_bytes, still, still_known, given_by}
 
 -- behind an appended part the bytes are still zeroes
 pub zeros_behind : (bytes part copied : List ℕ) (len end : ℕ) → length bytes ≡ 3 → end ≡ len + length part → end ≤ 3 → copied ≡ part → drop len bytes ≡ replicate (3 - len) 0
@@ -43,7 +45,7 @@ kept_nothing (Some l) None kept = absurd kept
 kept_nothing (Some l) (Some l') kept = sym kept
 
 -- three bytes decide which mark begins them
-mark_of_three : (bytes rest : List ℕ) → length bytes ≡ 3 → mark (bytes ++ rest) ≡ mark bytes
+pub mark_of_three : (bytes rest : List ℕ) → length bytes ≡ 3 → mark (bytes ++ rest) ≡ mark bytes
 mark_of_three [] rest e = absurd (omega (arith, e))
 mark_of_three (a ∷ []) rest e = absurd (omega (arith, e))
 mark_of_three (a ∷ b ∷ []) rest e = absurd (omega (arith, e))
@@ -72,7 +74,7 @@ still_peeked at rest e = ap (λ b. if b then at.waiting ++ rest else stream_byte
 still_unpeeked : (at : PeekerStanding) (rest : List ℕ) → at.peeked ≡ false → still at rest ≡ stream_bytes at.strips (at.gathered ++ rest)
 still_unpeeked at rest e = ap (λ b. if b then at.waiting ++ rest else stream_bytes at.strips (at.gathered ++ rest)) e
 
-take_twice : (bytes more : List ℕ) → take 3 (take 3 bytes ++ more) ≡ take 3 (bytes ++ more)
+pub take_twice : (bytes more : List ℕ) → take 3 (take 3 bytes ++ more) ≡ take 3 (bytes ++ more)
 take_twice [] more = refl
 take_twice (a ∷ []) more = refl
 take_twice (a ∷ b ∷ []) more = refl
@@ -102,6 +104,10 @@ taken_more left left' before after moved grown consumed =
 
 pub taken_nothing : (left : Option (List ℕ)) (bytes : List ℕ) → Consumes left left (drop (length bytes) bytes)
 taken_nothing left bytes = subst (Consumes left left) (sym (drop-length bytes)) (Consumes-nil left)
+
+pub gathered_stays : (ended : Bool) (bytes moved : List ℕ) → length bytes ≤ 3 → (ended ≡ false → length bytes ≡ 3) → (ended ≡ true → moved ≡ []) → take 3 (bytes ++ moved) ≡ bytes
+gathered_stays false bytes moved few whole none = take-append-le 3 bytes moved (omega (arith, whole refl)) ∙ take_all 3 bytes few
+gathered_stays true bytes moved few whole none = ap (λ l. take 3 (bytes ++ l)) (none refl) ∙ ap (take 3) (append-nil bytes) ∙ take_all 3 bytes few
 
 -- no byte was moved
 pub moves_nothing : (left : Option (List ℕ)) (at : PeekerStanding) → length at.gathered ≤ 3 → PeekerMoves left left at at []
@@ -146,49 +152,52 @@ moves_part left left' a b moved unpeeked unpeeked' strips grown few consumed = r
   same_strips = strips;
 }
 
--- the source gave bytes behind the gathered ones
-pub moves_on : (left left' : Option (List ℕ)) (a b : PeekerStanding) (moved : List ℕ) → a.peeked ≡ true → b.peeked ≡ true → b.strips ≡ a.strips
-    → b.gathered ≡ a.gathered → a.waiting ≡ [] → b.waiting ≡ [] → length a.gathered ≡ 3 → Consumes left left' moved → PeekerMoves left left' a b moved
-moves_on left left' a b moved done done' strips same none none' whole consumed = record {
+-- gathered bytes were given
+pub next_given : (left left' : Option (List ℕ)) (a b : PeekerStanding) (given : List ℕ) → left' ≡ left → b ≡ record a { waiting = b.waiting } → a.waiting ≡ given ++ b.waiting
+    → GivesNext left left' a b given 0
+next_given left left' a b given same_left same split = record {
+  moved = [];
+  bytes = All-nil (λ x. x < 256);
+  count = refl;
+  consumed = subst (λ l. Consumes left l []) (sym same_left) (Consumes-nil left);
+  seam = append-nil a.waiting ∙ split;
+  behind_end = λ e. refl;
+  same_strips = ap (λ s. s.strips) same;
+  same_gathered = ap (λ s. s.gathered) same;
+}
+
+-- none waits, and the source gave bytes
+pub next_read : (left left' : Option (List ℕ)) (a b : PeekerStanding) (moved : List ℕ) (n : ℕ) → a.waiting ≡ [] → b.waiting ≡ [] → b.strips ≡ a.strips → b.gathered ≡ a.gathered
+    → a.ended ≡ false → AreBytes moved → length moved ≡ n → Consumes left left' moved → GivesNext left left' a b moved n
+next_read left left' a b moved n none none' strips same going are count consumed = record {
   moved = moved;
+  bytes = are;
+  count = count;
   consumed = consumed;
-  equation = λ rest end.
-      still_peeked a (moved ++ rest) done
-      ∙ ap (λ l. l ++ (moved ++ rest)) none
-      ∙ ap (λ l. moved ++ l) (sym (still_peeked b rest done' ∙ ap (λ l. l ++ rest) none'));
-  gathered = same ∙ sym (take-append-le 3 a.gathered moved (omega (arith, whole)) ∙ take_all 3 a.gathered (omega (arith, whole)));
+  seam = ap (λ l. l ++ moved) none ∙ sym (append-nil moved) ∙ ap (λ l. moved ++ l) (sym none');
+  behind_end = λ e. absurd (true≢false (sym e ∙ going));
   same_strips = strips;
+  same_gathered = same;
 }
 
--- gathered bytes were given then
-pub moves_given : (left left' left'' : Option (List ℕ)) (a b c : PeekerStanding) (given : List ℕ) → PeekerMoves left left' a b [] → left'' ≡ left' → b.peeked ≡ true
-    → c ≡ record b { waiting = c.waiting } → b.waiting ≡ given ++ c.waiting → PeekerMoves left left'' a c given
-moves_given left left' left'' a b c given before same_left done same split = record {
-  moved = before.moved;
-  consumed = subst (λ l. Consumes left l before.moved) (sym same_left) before.consumed;
-  equation = λ rest end.
-      before.equation rest (λ e. end (ap (λ s. s.ended) same ∙ e))
-      ∙ still_peeked b rest done
-      ∙ ap (λ l. l ++ rest) split
+-- bytes were gathered, and some were given then
+pub moves_next : (left left' left'' : Option (List ℕ)) (a b c : PeekerStanding) (given : List ℕ) (n : ℕ) → PeekerMoves left left' a b [] → GivesNext left' left'' b c given n
+    → b.peeked ≡ true → c.peeked ≡ true → (b.ended ≡ false → length b.gathered ≡ 3) → (b.ended ≡ true → c.ended ≡ true) → PeekerMoves left left'' a c given
+moves_next left left' left'' a b c given n first next done done' whole ends = record {
+  moved = first.moved ++ next.moved;
+  consumed = Consumes-trans left left' left'' first.moved next.moved first.consumed next.consumed;
+  equation = λ rest none.
+      ap (still a) (append_assoc first.moved next.moved rest)
+      ∙ first.equation (next.moved ++ rest) (λ e. ap (λ l. l ++ rest) (next.behind_end e) ∙ none (ends e))
+      ∙ still_peeked b (next.moved ++ rest) done
+      ∙ sym (append_assoc b.waiting next.moved rest)
+      ∙ ap (λ l. l ++ rest) next.seam
       ∙ append_assoc given c.waiting rest
-      ∙ ap (λ l. given ++ l) (sym (still_peeked c rest (ap (λ s. s.peeked) same ∙ done)));
-  gathered = ap (λ s. s.gathered) same ∙ before.gathered;
-  same_strips = ap (λ s. s.strips) same ∙ before.same_strips;
-}
-
--- more was read then
-pub moves_more : (left left' left'' : Option (List ℕ)) (a b c : PeekerStanding) (given : List ℕ) → PeekerMoves left left' a b [] → PeekerMoves left' left'' b c given
-    → b.ended ≡ false → PeekerMoves left left'' a c given
-moves_more left left' left'' a b c given first later going_on = record {
-  moved = first.moved ++ later.moved;
-  consumed = Consumes-trans left left' left'' first.moved later.moved first.consumed later.consumed;
-  equation = λ rest end.
-      ap (still a) (append_assoc first.moved later.moved rest)
-      ∙ first.equation (later.moved ++ rest) (λ e. absurd (true≢false (sym e ∙ going_on)))
-      ∙ later.equation rest end;
-  gathered = later.gathered ∙ ap (λ l. take 3 (l ++ later.moved)) first.gathered ∙ take_twice (a.gathered ++ first.moved) later.moved
-      ∙ ap (take 3) (append_assoc a.gathered first.moved later.moved);
-  same_strips = later.same_strips ∙ first.same_strips;
+      ∙ ap (λ l. given ++ l) (sym (still_peeked c rest done'));
+  gathered = next.same_gathered ∙ sym (gathered_stays b.ended b.gathered next.moved (omega (arith, ap length first.gathered, length-take 3 (a.gathered ++ first.moved))) whole next.behind_end)
+      ∙ ap (λ l. take 3 (l ++ next.moved)) first.gathered ∙ take_twice (a.gathered ++ first.moved) next.moved
+      ∙ ap (take 3) (append_assoc a.gathered first.moved next.moved);
+  same_strips = next.same_strips ∙ first.same_strips;
 }
 
 pub at_end : (left : Option (List ℕ)) → ForSome left (λ l. l ≡ []) → IsAtEnd left
@@ -216,3 +225,80 @@ pub known_read : {E : Type 0} (left left' : Option (List ℕ)) (a b : PeekerStan
     → (b.ended ≡ true → IsAtEnd left') → IfOk result (λ n. n ≡ 0 → 0 < length buf → HasGivenAll b) → ReadConsumes (still_known a left) (still_known b left') result buf
 known_read left left' a b (Ok n) buf moves end all = (known_moved left left' a b _ moves end, λ none room. known_end left' b (all none room) end)
 known_read left left' a b (Err e) buf moves end all = known_kept left left' a b moves end
+
+-- what is gathered are bytes
+pub gathered_bytes : (bytes : List ℕ) (n : ℕ) → AreBytes bytes → AreBytes (take n bytes)
+gathered_bytes bytes n are = All-take (λ x. x < 256) n bytes are
+
+pub bytes_put : (bytes part : List ℕ) (len count : ℕ) → AreBytes bytes → AreBytes part → AreBytes (put_mid len count bytes part)
+bytes_put bytes part len count are are_part =
+    let P : ℕ → Type 0 = λ x. x < 256 in
+    All-append P (take len bytes) (part ++ drop count (drop len bytes)) (All-take P len bytes are)
+    (All-append P part (drop count (drop len bytes)) are_part (All-drop P count (drop len bytes) (All-drop P len bytes are)))
+
+-- how many gathered bytes wait
+pub waiting_count : (bytes : List ℕ) (len place : ℕ) → length bytes ≡ 3 → len ≤ 3 → length (drop place (take len bytes)) ≡ len - place
+waiting_count bytes len place whole few = length-drop place (take len bytes) ∙ ap (λ n. n - place) (length-take-le len bytes (omega arith))
+
+-- none waits, and the source gave none
+pub next_none : (left left' : Option (List ℕ)) (a b : PeekerStanding) → a.waiting ≡ [] → b.waiting ≡ [] → b.strips ≡ a.strips → b.gathered ≡ a.gathered
+    → a.ended ≡ false → Consumes left left' [] → GivesNext left left' a b [] 0
+next_none left left' a b none none' strips same going consumed =
+    next_read left left' a b [] 0 none none' strips same going (All-nil (λ x. x < 256)) refl consumed
+
+pub next_nothing : (left : Option (List ℕ)) (a : PeekerStanding) → GivesNext left left a a [] 0
+next_nothing left a = record {
+  moved = [];
+  bytes = All-nil (λ x. x < 256);
+  count = refl;
+  consumed = Consumes-nil left;
+  seam = append-nil a.waiting;
+  behind_end = λ e. refl;
+  same_strips = refl;
+  same_gathered = refl;
+}
+
+-- what was given stands at the front of a longer buffer
+pub next_front : (left left' : Option (List ℕ)) (a b : PeekerStanding) (n : ℕ) (part rest : List ℕ) → n ≤ length part → GivesNext left left' a b (take n part) n
+    → GivesNext left left' a b (take n (part ++ rest)) n
+next_front left left' a b n part rest within next = subst (λ l. GivesNext left left' a b l n) (sym (take-append-le n part rest within)) next
+
+-- calls of the source, where bytes were gathered and then more were given
+pub calls_read : (ended : Bool) (c0 c1 c2 g0 g1 g2 n t : ℕ) → c1 + g0 ≤ c0 + g1 + 1 → (ended ≡ false → c1 + g0 ≤ c0 + g1) → (ended ≡ true → c2 ≡ c1)
+    → c2 ≤ c1 + t + 1 → t ≤ n → g2 ≡ g1 → c2 + g0 ≤ c0 + g2 + n + 1
+calls_read true c0 c1 c2 g0 g1 g2 n t first whole same second few gathered = omega (arith, same refl)
+calls_read false c0 c1 c2 g0 g1 g2 n t first whole same second few gathered = omega (arith, whole refl)
+
+-- some bytes for the mark were gathered, or all
+pub gathers_part : (left left' : Option (List ℕ)) (a b : PeekerStanding) (moved : List ℕ) → b.peeked ≡ false → b.strips ≡ a.strips → b.gathered ≡ a.gathered ++ moved
+    → AreBytes moved → Consumes left left' moved → Gathers left left' a b
+gathers_part left left' a b moved unpeeked strips grown are consumed = record {
+  moved = moved;
+  bytes = are;
+  consumed = consumed;
+  grown = grown;
+  same_strips = strips;
+  front = λ done. absurd (true≢false (sym done ∙ unpeeked));
+}
+
+pub gathers_all : (left left' : Option (List ℕ)) (a b : PeekerStanding) (moved : List ℕ) → b.strips ≡ a.strips → b.gathered ≡ a.gathered ++ moved
+    → b.waiting ≡ drop (front_length b.strips b.gathered) b.gathered → front_length b.strips b.gathered ≤ length b.gathered
+    → (b.ended ≡ false → length b.gathered ≡ 3) → AreBytes moved → Consumes left left' moved → Gathers left left' a b
+gathers_all left left' a b moved strips grown waiting front whole are consumed = record {
+  moved = moved;
+  bytes = are;
+  consumed = consumed;
+  grown = grown;
+  same_strips = strips;
+  front = λ done. record {
+    peeked = done;
+    whole = whole;
+    front = λ rest none. behind_front b.strips b.gathered rest (same_mark b.ended b.gathered rest whole none) front ∙ ap (λ l. l ++ rest) (sym waiting);
+  };
+}
+
+-- bytes that were joined to others are bytes
+pub joined_bytes : (all before moved : List ℕ) → all ≡ before ++ moved → AreBytes all → AreBytes moved
+joined_bytes all before moved split are =
+    let P : ℕ → Type 0 = λ x. x < 256 in
+    subst AreBytes (ap (drop (length before)) split ∙ drop-append_seam before moved) (All-drop P (length before) all are)

@@ -1,7 +1,15 @@
+pub mod BuilderView
 pub mod Faults
+pub mod Joined
 pub mod Marks
 pub mod Memory
+pub mod Options
 pub mod Peeker
 pub mod Peeking
+pub mod Pieces
+pub mod Reader
+pub mod ReaderCalls
+pub mod ReaderView
+pub mod Stream
 pub mod Text
 pub mod Tiny

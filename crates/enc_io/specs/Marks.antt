@@ -2,7 +2,7 @@
 use Rattle.std.specs.Prelude.{ℕ, nat_lt, Bool, if◌then◌else◌, List, length, take, Option, None}
 use Rattle.std.specs.Option.{option_map, option_map_or}
 use Rattle.enc_io.specs.declared.bom.PossibleBom.{PossibleBom}
-use Rattle.enc_front.specs.declared.names.Encoding.{Encoding}
+use Rattle.enc_front.specs.declared.encoding.Encoding.{Encoding}
 use Rattle.enc_front.specs.Marks.{mark}
 
 -- the bytes that were gathered

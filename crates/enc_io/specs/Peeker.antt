@@ -1,8 +1,9 @@
 -- What a reader of a stream behind its mark stands for between two calls.
-use Rattle.std.specs.Prelude.{◌≡◌, ℕ, Bool, true, false, if◌then◌else◌, List, [], ◌++◌, take, Result, Ok, Err}
+use Rattle.std.specs.Prelude.{◌≡◌, ℕ, Bool, true, false, if◌then◌else◌, List, [], ◌++◌, length, take, Result, Ok, Err}
 use Rattle.std.specs.Io.KnownBytes.{Consumes}
 use Rattle.std.specs.declared.option.Option.{Option}
 use Rattle.std.specs.Option.{option_map}
+use Rattle.enc_drivers.specs.Units.{AreBytes}
 use Rattle.enc_front.specs.Marks.{without_mark}
 
 -- whether a mark is left out, the bytes gathered to look for it, whether that is done, those of them that are still to be given once it is, and whether
@@ -49,3 +50,42 @@ pub record HasGivenAll (at : PeekerStanding) : Type 0 where
 abbrev pub given_by : {E : Type 0} → Result ℕ E → List ℕ → List ℕ
 given_by (Ok n) buf = take n buf
 given_by (Err e) buf = []
+
+-- the bytes that a read gave, and how many of them the source gave in it
+abbrev pub given_within : {E : Type 0} → Result (ℕ × ℕ) E → List ℕ → List ℕ
+given_within (Ok n) buf = take n.0 buf
+given_within (Err e) buf = []
+
+abbrev pub count_by : {E : Type 0} → Result ℕ E → ℕ
+count_by (Ok n) = n
+count_by (Err e) = 0
+
+abbrev pub taken_by : {E : Type 0} → Result (ℕ × ℕ) E → ℕ
+taken_by (Ok n) = n.1
+taken_by (Err e) = 0
+
+-- behind the gathering: bytes that waited were given, or some that the source gave then
+pub record GivesNext (left_before left_after : Option (List ℕ)) (before after : PeekerStanding) (given : List ℕ) (taken : ℕ) : Type 0 where
+  pub moved : List ℕ
+  pub bytes : AreBytes moved
+  pub count : length moved ≡ taken
+  pub consumed : Consumes left_before left_after moved
+  pub seam : before.waiting ++ moved ≡ given ++ after.waiting
+  pub behind_end : before.ended ≡ true → moved ≡ []
+  pub same_strips : after.strips ≡ before.strips
+  pub same_gathered : after.gathered ≡ before.gathered
+
+-- all bytes for the mark are gathered: what waits, and what follows, is what is given of the stream
+pub record FrontWaits (at : PeekerStanding) : Type 0 where
+  pub peeked : at.peeked ≡ true
+  pub whole : at.ended ≡ false → length at.gathered ≡ 3
+  pub front : (rest : List ℕ) → (at.ended ≡ true → rest ≡ []) → stream_bytes at.strips (at.gathered ++ rest) ≡ at.waiting ++ rest
+
+-- bytes for the mark were gathered
+pub record Gathers (left_before left_after : Option (List ℕ)) (before after : PeekerStanding) : Type 0 where
+  pub moved : List ℕ
+  pub bytes : AreBytes moved
+  pub consumed : Consumes left_before left_after moved
+  pub grown : after.gathered ≡ before.gathered ++ moved
+  pub same_strips : after.strips ≡ before.strips
+  pub front : after.peeked ≡ true → FrontWaits after

@@ -1,5 +1,6 @@
 //! The first bytes of a stream, which may be a byte order mark.
 ghost use Rattle.std.specs.Prelude.{◌≡◌, ◌+◌, ◌-◌, ◌≤◌, [], ◌++◌, length, drop, replicate};
+ghost use Rattle.enc_drivers.specs.Units.{AreBytes};
 
 use enc_front::Encoding;
 
@@ -12,6 +13,7 @@ pub struct PossibleBom {
     pub len: usize,
     ghost within: { len ≤ 3 },
     ghost zeros: { drop len bytes ≡ replicate (3 - len) 0 },
+    ghost are_bytes: { AreBytes bytes },
 }
 
 impl PossibleBom {

@@ -1,5 +1,5 @@
 //! Reading until a buffer is full.
-ghost use Rattle.std.specs.Prelude.{◌≡◌, ◌<◌, ◌≤◌, IsNone, IfOk, IfErr, OnOk, OnErr, min, length, take};
+ghost use Rattle.std.specs.Prelude.{◌≡◌, ◌+◌, ◌<◌, ◌≤◌, IsNone, IfOk, IfErr, OnOk, OnErr, min, length, take, drop};
 ghost use Rattle.std.specs.Io.{ReadsAtMost};
 ghost use Rattle.std.specs.Io.KnownBytes.{Consumes, IsAtEnd};
 ghost use Rattle.enc_io.specs.Faults.{Rose};
@@ -18,6 +18,11 @@ pub fn read_full<S: Source>(source: &mut S, buf: &mut [u8]) -> Result<usize, (us
     ensures within_err { IfErr result (λ e. e.0 < length buf.new) }
     ensures moved_err { IfErr result (λ e. Consumes (S.left source.old) (S.left source.new) (take e.0 buf.new)) }
     ensures silent { IsNone (S.left source.old) → IsNone (S.left source.new) }
+    ensures calls { IfOk result (λ n. S.calls source.new ≤ S.calls source.old + n + 1) }
+    ensures calls_full { IfOk result (λ n.
+        n ≡ length buf.new → S.calls source.new ≤ S.calls source.old + n) }
+    ensures calls_err { IfErr result (λ e. S.calls source.new ≤ S.calls source.old + e.0 + 1) }
+    ensures nothing_asked { length buf.old ≡ 0 → source.new ≡ source.old }
     ensures counted { OnOk result (S.faults source.new ≡ S.faults source.old) }
     ensures failed { OnErr result (Rose (S.faults source.old) (S.faults source.new)) }
     ensures never_falls { S.faults source.old ≤ S.faults source.new }
@@ -37,6 +42,7 @@ pub fn read_full<S: Source>(source: &mut S, buf: &mut [u8]) -> Result<usize, (us
 pub(crate) fn give(waiting: &[u8], buf: &mut [u8]) -> usize
     ensures count { result ≡ min (length buf.old) (length waiting.now) }
     ensures given { take result buf.new ≡ take result waiting.now }
+    ensures untouched { drop result buf.new ≡ drop result buf.old }
     ensures len { length buf.new ≡ length buf.old }
 {
     let count = buf.len().min(waiting.len());

@@ -3,18 +3,23 @@
 #![tactic(auto)]
 
 pub mod bom;
+pub mod builder;
 pub mod filling;
+pub mod laws;
 pub mod memory;
 pub mod outside;
 pub mod peeker;
+pub mod reader;
 pub mod stream;
 pub mod tiny;
 
 pub use bom::PossibleBom;
+pub use builder::{BuildError, DecodeReaderBytesBuilder};
 pub use filling::read_full;
 pub use memory::MemorySource;
 pub use outside::{Failed, Source};
 pub use peeker::BomPeeker;
+pub use reader::{DecodeReaderBytes, ReadError};
 pub use stream::StreamSource;
 pub use tiny::TinyTranscoder;
 

@@ -66,6 +66,8 @@ impl Source for MemorySource {
 
     ghost faults = { λ s. s.faults };
 
+    ghost calls = { λ s. s.calls };
+
     fn read(&mut self, buf: &mut [u8]) -> Result<usize, Failed>
         // As of every source.
         ensures within { ReadsAtMost result buf.new }

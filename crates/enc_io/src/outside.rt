@@ -3,7 +3,7 @@ ghost use Rattle.std.specs.Prelude.{◌≡◌, ℕ, ◌≤◌, List, IsNone, OnO
 ghost use Rattle.std.specs.declared.option.Option.{Option};
 ghost use Rattle.std.specs.Io.{ReadsAtMost};
 ghost use Rattle.std.specs.Io.KnownBytes.{ReadConsumes};
-ghost use Rattle.enc_io.specs.Faults.{Rose};
+ghost use Rattle.enc_io.specs.Faults.{Rose, count_after};
 
 /// A call on the outside failed.
 #[derive(Clone, Copy, Debug, PartialEq, Eq)]
@@ -11,14 +11,17 @@ pub struct Failed;
 
 /// Where bytes come from.
 ///
-/// A source has a list of the bytes left, where it tells that, and a count of faults that never
-/// falls. Whether it tells does not change.
+/// A source has a list of the bytes left, where it tells that, a count of faults that never falls,
+/// and a number of calls. Whether it tells does not change.
 pub trait Source {
     /// The bytes left, or nothing where the source does not tell.
     ghost left: { Self → Option (List ℕ) };
 
     /// How many reads failed, which stands still at `u64::MAX`.
     ghost faults: { Self → ℕ };
+
+    /// How many reads there were, which stands still at `u64::MAX`.
+    ghost calls: { Self → ℕ };
 
     /// Moves the first bytes left to the front of `buf`, and answers how many.
     ///
@@ -31,6 +34,7 @@ pub trait Source {
         ensures within { ReadsAtMost result buf.new }
         ensures moved { ReadConsumes (left self.old) (left self.new) result buf.new }
         ensures silent { IsNone (left self.old) → IsNone (left self.new) }
+        ensures calls { calls self.new ≡ count_after (calls self.old) }
         ensures counted { OnOk result (faults self.new ≡ faults self.old) }
         ensures failed { OnErr result (Rose (faults self.old) (faults self.new)) }
         ensures never_falls { faults self.old ≤ faults self.new };

@@ -4,7 +4,7 @@ ghost use Rattle.std.specs.Option.{ForSome};
 ghost use Rattle.std.specs.Io.{ReadsAtMost};
 ghost use Rattle.std.specs.Io.KnownBytes.{Consumes, Keeps, IsAtEnd, ReadConsumes};
 ghost use Rattle.enc_io.specs.Faults.{Rose};
-ghost use Rattle.enc_io.specs.Peeker.{PeekerMoves, HasGivenAll, fresh, still_known, given_by};
+ghost use Rattle.enc_io.specs.Peeker.{PeekerMoves, Gathers, GivesNext, HasGivenAll, fresh, still_known, given_by, given_within, count_by, taken_by};
 
 use crate::bom::PossibleBom;
 use crate::filling::{give, read_full};
@@ -46,7 +46,7 @@ impl<S: Source> BomPeeker<S> {
     }
 
     // A reader at the start of a stream.
-    fn at_start(source: S, strips: bool) -> BomPeeker<S>
+    pub(crate) fn at_start(source: S, strips: bool) -> BomPeeker<S>
         ensures start { standing_of result ≡ fresh strips }
         ensures source { source_of result ≡ source }
     {
@@ -72,10 +72,17 @@ impl<S: Source> BomPeeker<S> {
         ensures peeked { OnOk result ((standing_of self.new).peeked ≡ true) }
         ensures bytes { IfOk result (λ bom. bom_bytes bom ≡ (standing_of self.new).gathered) }
         ensures whole { IfOk result (λ bom. (standing_of self.new).ended ≡ false → bom.len ≡ 3) }
+        ensures three { OnOk result ((standing_of self.new).ended ≡ false
+            → length (standing_of self.new).gathered ≡ 3) }
         ensures end { (standing_of self.new).ended ≡ true → IsAtEnd (S.left (source_of self.new)) }
         ensures still_peeked { (standing_of self.old).peeked ≡ true → (standing_of self.new).peeked ≡ true }
         ensures still_ended { (standing_of self.old).ended ≡ true → (standing_of self.new).ended ≡ true }
         ensures not_ended { OnErr result ((standing_of self.new).ended ≡ false) }
+        ensures calls { S.calls (source_of self.new) + length (standing_of self.old).gathered
+            ≤ S.calls (source_of self.old) + length (standing_of self.new).gathered + 1 }
+        ensures calls_whole { OnOk result ((standing_of self.new).ended ≡ false
+            → S.calls (source_of self.new) + length (standing_of self.old).gathered
+            ≤ S.calls (source_of self.old) + length (standing_of self.new).gathered) }
         ensures again { (standing_of self.old).peeked ≡ true → IsOk result × (source_of self.new ≡ source_of self.old) × (standing_of self.new ≡ standing_of self.old) }
         ensures silent { IsNone (S.left (source_of self.old)) → IsNone (S.left (source_of self.new)) }
         ensures counted { OnOk result (S.faults (source_of self.new) ≡ S.faults (source_of self.old)) }
@@ -85,7 +92,7 @@ impl<S: Source> BomPeeker<S> {
         if self.peeked {
             return Ok(self.bom);
         }
-        match self.gather() {
+        match self.gather(3) {
             Ok(()) => Ok(self.bom),
             Err(failed) => Err(failed),
         }
@@ -108,6 +115,9 @@ impl<S: Source> BomPeeker<S> {
         ensures still_peeked { (standing_of self.old).peeked ≡ true → (standing_of self.new).peeked ≡ true }
         ensures still_ended { (standing_of self.old).ended ≡ true → (standing_of self.new).ended ≡ true }
         ensures not_ended { OnErr result ((standing_of self.new).ended ≡ false) }
+        ensures calls { S.calls (source_of self.new) + length (standing_of self.old).gathered
+            ≤ S.calls (source_of self.old) + length (standing_of self.new).gathered
+            + length (given_by result buf.new) + 1 }
         ensures no_room { length buf.old ≡ 0 → (result ≡ Ok 0) × (source_of self.new ≡ source_of self.old) × (standing_of self.new ≡ standing_of self.old) }
         ensures after_end { (standing_of self.old).ended ≡ true → source_of self.new ≡ source_of self.old }
         ensures silent { IsNone (S.left (source_of self.old)) → IsNone (S.left (source_of self.new)) }
@@ -121,30 +131,81 @@ impl<S: Source> BomPeeker<S> {
         if let Err(failed) = self.peek_bom() {
             return Err(failed);
         }
-        let count = self.give_waiting(buf);
-        if count > 0 || self.ended {
-            return Ok(count);
+        match self.read_within(buf, buf.len()) {
+            Ok((count, _)) => Ok(count),
+            Err(failed) => Err(failed),
         }
-        self.read_on(buf)
     }
 
-    // Gathers the bytes for the mark.
-    fn gather(&mut self) -> Result<(), Failed>
-        requires { (standing_of self.old).peeked ≡ false }
+    // Whether the source has ended, and all is given.
+    pub(crate) fn has_given_all(&self) -> bool
+        ensures yes { result ≡ true → HasGivenAll (standing_of self.now) }
+        ensures no { result ≡ false → HasGivenAll (standing_of self.now) → ⊥ }
+    {
+        self.peeked && self.ended && self.place == self.bom.len
+    }
+
+    // The bytes that were gathered for the mark.
+    pub(crate) fn gathered(&self) -> PossibleBom
+        ensures { bom_bytes result ≡ (standing_of self.now).gathered }
+    {
+        self.bom
+    }
+
+    // How many they are.
+    pub(crate) fn gathered_len(&self) -> usize
+        ensures { result ≡ length (standing_of self.now).gathered }
+    {
+        self.bom.len
+    }
+
+    // Whether the bytes for the mark are gathered.
+    pub(crate) fn is_peeked(&self) -> bool
+        ensures { result ≡ (standing_of self.now).peeked }
+    {
+        self.peeked
+    }
+
+    // The source.
+    pub(crate) fn into_source(self) -> S
+        ensures { result ≡ source_of self }
+    {
+        self.source
+    }
+
+    // Gathers the bytes for the mark, but no more than `most`.
+    pub(crate) fn gather(&mut self, most: usize) -> Result<(), Failed>
+        requires unpeeked { (standing_of self.old).peeked ≡ false }
+        requires most { length (standing_of self.old).gathered ≤ most }
         ensures moves { PeekerMoves (S.left (source_of self.old)) (S.left (source_of self.new)) (standing_of self.old) (standing_of self.new) [] }
         ensures taken { Consumes (S.left (source_of self.old)) (S.left (source_of self.new)) (drop (length (standing_of self.old).gathered) (standing_of self.new).gathered) }
-        ensures peeked { OnOk result ((standing_of self.new).peeked ≡ true) }
+        ensures gathers { Gathers (S.left (source_of self.old)) (S.left (source_of self.new)) (standing_of self.old) (standing_of self.new) }
+        ensures most { length (standing_of self.new).gathered ≤ most }
+        ensures peeked { OnOk result ((standing_of self.new).peeked ≡ false
+            → (length (standing_of self.new).gathered ≡ most) × (most < 3)) }
+        ensures whole { OnOk result ((standing_of self.new).peeked ≡ true
+            → (standing_of self.new).ended ≡ false → length (standing_of self.new).gathered ≡ 3) }
+        ensures few { OnErr result (length (standing_of self.new).gathered < min 3 most) }
         ensures not_ended { OnErr result ((standing_of self.new).ended ≡ false) }
+        ensures unpeeked { OnErr result ((standing_of self.new).peeked ≡ false) }
+        ensures calls { S.calls (source_of self.new) + length (standing_of self.old).gathered
+            ≤ S.calls (source_of self.old) + length (standing_of self.new).gathered + 1 }
+        ensures calls_full { OnOk result ((standing_of self.new).ended ≡ false
+            → S.calls (source_of self.new) + length (standing_of self.old).gathered
+            ≤ S.calls (source_of self.old) + length (standing_of self.new).gathered) }
         ensures silent { IsNone (S.left (source_of self.old)) → IsNone (S.left (source_of self.new)) }
         ensures counted { OnOk result (S.faults (source_of self.new) ≡ S.faults (source_of self.old)) }
         ensures failed { OnErr result (Rose (S.faults (source_of self.old)) (S.faults (source_of self.new))) }
         ensures never_falls { S.faults (source_of self.old) ≤ S.faults (source_of self.new) }
     {
         let mut part = [0; 3];
-        let room = 3 - self.bom.len;
+        let room = most.min(3) - self.bom.len;
         match read_full(&mut self.source, &mut part[..room]) {
             Ok(count) => {
                 self.bom = self.bom.with(&part[..count]);
+                if count == room && self.bom.len < 3 {
+                    return Ok(());
+                }
                 self.ended = count < room;
                 self.place = self.bom.front_len(self.strips);
                 self.peeked = true;
@@ -171,6 +232,56 @@ impl<S: Source> BomPeeker<S> {
         count
     }
 
+    // Moves the next bytes to the front of `buf`: gathered ones, or at most `most` of the source. Answers how many, and how
+    // many of them the source gave.
+    pub(crate) fn read_within(
+        &mut self,
+        buf: &mut [u8],
+        most: usize,
+    ) -> Result<(usize, usize), Failed>
+        requires peeked { (standing_of self.old).peeked ≡ true }
+        requires room { 0 < length buf.old }
+        requires most { 0 < most }
+        ensures within { IfOk result (λ n. n.0 ≤ length buf.new) }
+        ensures len { length buf.new ≡ length buf.old }
+        ensures next { GivesNext (S.left (source_of self.old)) (S.left (source_of self.new)) (standing_of self.old) (standing_of self.new) (given_within result buf.new) (taken_by result) }
+        ensures most { IfOk result (λ n. (n.1 ≤ most) × (n.1 ≤ n.0)) }
+        ensures all { IfOk result (λ n. n.0 ≡ 0 → HasGivenAll (standing_of self.new)) }
+        ensures none_waits { OnErr result ((standing_of self.new).waiting ≡ []) }
+        ensures three { (standing_of self.old).ended ≡ false → length (standing_of self.old).gathered ≡ 3 }
+        ensures still_peeked { (standing_of self.new).peeked ≡ true }
+        ensures still_ended { (standing_of self.old).ended ≡ true → (standing_of self.new).ended ≡ true }
+        ensures not_ended { OnErr result ((standing_of self.new).ended ≡ false) }
+        ensures after_end { (standing_of self.old).ended ≡ true → source_of self.new ≡ source_of self.old }
+        ensures calls { S.calls (source_of self.new) ≤ S.calls (source_of self.old) + taken_by result + 1 }
+        ensures calls_on { OnOk result ((standing_of self.new).ended ≡ false
+            → S.calls (source_of self.new) ≤ S.calls (source_of self.old) + taken_by result) }
+        ensures silent { IsNone (S.left (source_of self.old)) → IsNone (S.left (source_of self.new)) }
+        ensures counted { OnOk result (S.faults (source_of self.new) ≡ S.faults (source_of self.old)) }
+        ensures failed { OnErr result (Rose (S.faults (source_of self.old)) (S.faults (source_of self.new))) }
+        ensures never_falls { S.faults (source_of self.old) ≤ S.faults (source_of self.new) }
+    {
+        if self.waits() {
+            return Ok((self.give_waiting(buf), 0));
+        }
+        if self.ended {
+            return Ok((0, 0));
+        }
+        let room = most.min(buf.len());
+        match self.read_on(&mut buf[..room]) {
+            Ok(count) => Ok((count, count)),
+            Err(failed) => Err(failed),
+        }
+    }
+
+    // Whether gathered bytes wait.
+    fn waits(&self) -> bool
+        ensures yes { result ≡ true → 0 < length (standing_of self.now).waiting }
+        ensures no { result ≡ false → (standing_of self.now).waiting ≡ [] }
+    {
+        self.place < self.bom.len
+    }
+
     // Reads from the source behind the gathered bytes.
     fn read_on(&mut self, buf: &mut [u8]) -> Result<usize, Failed>
         requires peeked { (standing_of self.old).peeked ≡ true }
@@ -178,10 +289,13 @@ impl<S: Source> BomPeeker<S> {
         requires not_ended { (standing_of self.old).ended ≡ false }
         requires room { 0 < length buf.old }
         ensures within { ReadsAtMost result buf.new }
-        ensures moves { PeekerMoves (S.left (source_of self.old)) (S.left (source_of self.new)) (standing_of self.old) (standing_of self.new) (given_by result buf.new) }
-        ensures all { IfOk result (λ n. n ≡ 0 → 0 < length buf.new → HasGivenAll (standing_of self.new)) }
+        ensures next { GivesNext (S.left (source_of self.old)) (S.left (source_of self.new)) (standing_of self.old) (standing_of self.new) (given_by result buf.new) (count_by result) }
+        ensures all { IfOk result (λ n. n ≡ 0 → HasGivenAll (standing_of self.new)) }
+        ensures some { IfOk result (λ n. (standing_of self.new).ended ≡ false → 0 < n) }
+        ensures none_waits { (standing_of self.new).waiting ≡ [] }
         ensures still_peeked { (standing_of self.new).peeked ≡ true }
         ensures not_ended { OnErr result ((standing_of self.new).ended ≡ false) }
+        ensures calls { S.calls (source_of self.new) ≤ S.calls (source_of self.old) + 1 }
         ensures silent { IsNone (S.left (source_of self.old)) → IsNone (S.left (source_of self.new)) }
         ensures counted { OnOk result (S.faults (source_of self.new) ≡ S.faults (source_of self.old)) }
         ensures failed { OnErr result (Rose (S.faults (source_of self.old)) (S.faults (source_of self.new))) }

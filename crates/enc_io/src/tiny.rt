@@ -1,9 +1,9 @@
 //! Decoding where a caller has room for few bytes.
 ghost use Rattle.std.specs.Prelude.{◌≡◌, ℕ, ◌+◌, ◌-◌, ◌*◌, ◌<◌, ◌≤◌, ◌↔◌, Bool, true, false, ◌&&◌, List, [], ◌++◌, min, length, take, drop};
 ghost use Rattle.enc_drivers.specs.Steps.{MayFollow};
-ghost use Rattle.enc_front.specs.Decoding.{DecoderMayHold, Replaces, has_used_up, owed_count};
-ghost use Rattle.enc_front.specs.Standing.{text_to_come};
-ghost use Rattle.enc_front.specs.LifeCycle.{standing_of};
+ghost use Rattle.enc_front.specs.DecoderCalls.{DecoderMayHold, Replaces, has_used_up, owed_count};
+ghost use Rattle.enc_front.specs.Decoder.{text_to_come};
+ghost use Rattle.enc_front.specs.DecoderView.{standing_of};
 
 use crate::filling::give;
 use enc_front::Decoder;
@@ -66,10 +66,36 @@ impl TinyTranscoder {
         ensures read { result.1 ≤ length src.now }
         ensures waits { result.2 ≡ length (waiting_of self.new) }
         ensures written { result.2 ≤ 7 }
-        ensures few { length (standing_of decoder.new).held ≤ 3 }
-        ensures short { result.2 + 3 * (length (standing_of decoder.new).held + owed_count (standing_of decoder.new)) ≤ 3 * (length (standing_of decoder.old).held + result.1 + owed_count (standing_of decoder.old)) }
-        ensures input_empty { result.0 ≡ CoderResult.InputEmpty → (result.1 ≡ length src.now) × ((standing_of decoder.new).owes ≡ false) × DecoderMayHold last (standing_of decoder.new) }
+        ensures few { length (standing_of decoder.new).place.held ≤ 3 }
+        ensures short { result.2 + 3 * (length (standing_of decoder.new).place.held + owed_count (standing_of decoder.new)) ≤ 3 * (length (standing_of decoder.old).place.held + result.1 + owed_count (standing_of decoder.old)) }
+        ensures input_empty { result.0 ≡ CoderResult.InputEmpty → (result.1 ≡ length src.now) × ((standing_of decoder.new).owes ≡ false) × DecoderMayHold last (standing_of decoder.new).place }
         ensures output_full { result.0 ≡ CoderResult.OutputFull → 7 - result.2 < 4 }
+        ensures pending { result.0 ≡ CoderResult.OutputFull → 0 < length (standing_of decoder.new).place.held + (length src.now - result.1) + owed_count (standing_of decoder.new) }
+        ensures owed { (standing_of decoder.new).owes ≡ true → 7 - result.2 < 3 }
+        ensures goes_on { result.2 ≡ 0 → result.1 ≡ length src.now }
+        ensures end { (standing_of decoder.new).finished ≡ (last && has_used_up result.0) }
+    {
+        self.fill(decoder, src, last)
+    }
+
+    // The same with any piece; only an empty one is the last.
+    pub(crate) fn fill(
+        &mut self,
+        decoder: &mut Decoder,
+        src: &[u8],
+        last: bool,
+    ) -> (CoderResult, usize, usize)
+        requires { (standing_of decoder.old).finished ≡ false }
+        ensures replaces { (replaced : Bool) × Replaces last (standing_of decoder.old) (standing_of decoder.new) src.now result.1 (waiting_of self.new) replaced }
+        ensures text { (more : List ℕ) → MayFollow last more → text_to_come (standing_of decoder.old) (src.now ++ more) ≡ waiting_of self.new ++ text_to_come (standing_of decoder.new) (drop result.1 src.now ++ more) }
+        ensures read { result.1 ≤ length src.now }
+        ensures waits { result.2 ≡ length (waiting_of self.new) }
+        ensures written { result.2 ≤ 7 }
+        ensures few { length (standing_of decoder.new).place.held ≤ 3 }
+        ensures short { result.2 + 3 * (length (standing_of decoder.new).place.held + owed_count (standing_of decoder.new)) ≤ 3 * (length (standing_of decoder.old).place.held + result.1 + owed_count (standing_of decoder.old)) }
+        ensures input_empty { result.0 ≡ CoderResult.InputEmpty → (result.1 ≡ length src.now) × ((standing_of decoder.new).owes ≡ false) × DecoderMayHold last (standing_of decoder.new).place }
+        ensures output_full { result.0 ≡ CoderResult.OutputFull → 7 - result.2 < 4 }
+        ensures pending { result.0 ≡ CoderResult.OutputFull → 0 < length (standing_of decoder.new).place.held + (length src.now - result.1) + owed_count (standing_of decoder.new) }
         ensures owed { (standing_of decoder.new).owes ≡ true → 7 - result.2 < 3 }
         ensures goes_on { result.2 ≡ 0 → result.1 ≡ length src.now }
         ensures end { (standing_of decoder.new).finished ≡ (last && has_used_up result.0) }
@@ -80,10 +106,20 @@ impl TinyTranscoder {
         (result, read, written)
     }
 
+    // Forgets what waits.
+    pub(crate) fn clear(&mut self)
+        ensures { waiting_of self.new ≡ [] }
+    {
+        self.len = 0;
+        self.pos = 0;
+    }
+
     /// Moves the next bytes that wait to the front of `buf`, as many as wait and fit, and answers how many.
     pub fn read(&mut self, buf: &mut [u8]) -> usize
         ensures count { result ≡ min (length buf.old) (length (waiting_of self.old)) }
         ensures given { waiting_of self.old ≡ take result buf.new ++ waiting_of self.new }
+        ensures untouched { drop result buf.new ≡ drop result buf.old }
+        ensures len { length buf.new ≡ length buf.old }
     {
         let count = give(&self.partial[self.pos..self.len], buf);
         self.pos += count;

@@ -1,4 +1,4 @@
-use Rattle.std.proofs.Common.{rules, subst}
+use Rattle.std.proofs.Common.{rules, subst, arith}
 use Rattle.std.specs.Io.KnownBytes.{Consumes}
 use Rattle.std.proofs.KnownBytes.{Consumes-trans}
 use Rattle.enc_io.proofs.Moves.{filled_more}
@@ -13,5 +13,7 @@ loop-count-preserved g c =
       within = search rules;
       moved = subst (Consumes _ _) joined (Consumes-trans _ _ _ _ _ c.loop-count.invariant.moved c.in-Ok.ensures.moved.0);
       silent = search rules;
+      calls = omega (arith, c.in-Ok.ensures.calls);
+      start = search rules;
       counted = search rules;
     }

@@ -1,6 +1,6 @@
-use Rattle.std.proofs.Common.{arith, ap, ◌∙◌, [], ◌++◌, take, ◌≡◌}
-use Rattle.enc_io.specs.Peeking.{standing_of}
-use Rattle.enc_io.proofs.PeekerLemmas.{moves_nothing, moves_given, moves_more, known_read, at_end, gathered_few}
+use Rattle.std.proofs.Common.{Ok, arith, length, length-take-le, ap}
+use Rattle.enc_io.specs.declared.outside.Failed.{Failed}
+use Rattle.enc_io.proofs.PeekerLemmas.{moves_nothing, moves_next, known_read, at_end, gathered_few, calls_read}
 use Rattle.enc_io.proofs.peeker.BomPeeker.read.Goals as goal
 
 pub returns-then-is_empty-clause-moves : goal.returns-then-is_empty-clause-moves
@@ -8,19 +8,26 @@ returns-then-is_empty-clause-moves g c =
     let bom = c.args.self.now.bom in
     moves_nothing _ _ (gathered_few bom.bytes bom.len bom.within)
 
-pub returns-then-count-gt0-clause-moves : goal.returns-then-count-gt0-clause-moves
-returns-then-count-gt0-clause-moves g c =
-    let give = c.give_waiting-count in
-    moves_given _ _ _ _ _ _ _ c.peek_bom.ensures.moves (ap g.S.Source.left give.ensures.source) c.in_default.ensures.peeked give.ensures.standing give.ensures.given
+pub returns-in-Ok-clause-moves : goal.returns-in-Ok-clause-moves
+returns-in-Ok-clause-moves g c =
+    moves_next _ _ _ _ _ _ _ _ c.peek_bom.ensures.moves c.in-Ok.ensures.next c.in_default.ensures.peeked c.in-Ok.ensures.still_peeked
+    c.in_default.ensures.three c.in-Ok.ensures.still_ended
 
-pub returns-clause-moves : goal.returns-clause-moves
-returns-clause-moves g c =
-    let give = c.give_waiting-count in
-    let none : give.result ≡ 0 = omega (arith, c.if-count-gt0.false) in
-    let split = give.ensures.given ∙ ap (λ n. take n give.new.buf ++ (standing_of give.new.self).waiting) none in
-    let first = moves_given _ _ _ _ _ _ [] c.peek_bom.ensures.moves (ap g.S.Source.left give.ensures.source) c.in_default.ensures.peeked give.ensures.standing split in
-    moves_more _ _ _ _ _ _ _ first c.read_on.ensures.moves c.if-self.false
+pub returns-in-Ok-clause-moved : goal.returns-in-Ok-clause-moved
+returns-in-Ok-clause-moved g c =
+    known_read {E = Failed} _ _ _ _ (Ok c.in-Ok.count) c.read_within.new.buf (returns-in-Ok-clause-moves g c) (λ e. at_end _ (c.read_within.new.self.end e)) (λ none room. c.in-Ok.ensures.all none)
 
-pub returns-clause-moved : goal.returns-clause-moved
-returns-clause-moved g c =
-    known_read _ _ _ _ c.read_on.result c.read_on.new.buf (returns-clause-moves g c) (λ e. at_end _ (c.read_on.new.self.end e)) c.read_on.ensures.all
+pub returns-in-Ok-clause-calls : goal.returns-in-Ok-clause-calls
+returns-in-Ok-clause-calls g c =
+    calls_read c.peek_bom.new.self.ended _ _ _ _ _ _ _ _ c.peek_bom.ensures.calls c.in_default.ensures.calls_whole (λ e. ap g.S.Source.calls (c.read_within.ensures.after_end e))
+    c.in-Ok.ensures.calls (omega (arith, c.in-Ok.ensures.most.1, length-take-le c.in-Ok.count c.read_within.new.buf c.in-Ok.ensures.within)) (ap length c.in-Ok.ensures.next.same_gathered)
+
+pub returns-in-Err-read_within-clause-moves : goal.returns-in-Err-read_within-clause-moves
+returns-in-Err-read_within-clause-moves g c =
+    moves_next _ _ _ _ _ _ _ _ c.peek_bom.ensures.moves c.in-Err-read_within.ensures.next c.in_default.ensures.peeked c.in-Err-read_within.ensures.still_peeked
+    c.in_default.ensures.three c.in-Err-read_within.ensures.still_ended
+
+pub returns-in-Err-read_within-clause-calls : goal.returns-in-Err-read_within-clause-calls
+returns-in-Err-read_within-clause-calls g c =
+    calls_read c.peek_bom.new.self.ended _ _ _ _ _ _ _ _ c.peek_bom.ensures.calls c.in_default.ensures.calls_whole (λ e. ap g.S.Source.calls (c.read_within.ensures.after_end e))
+    c.in-Err-read_within.ensures.calls (omega arith) (ap length c.in-Err-read_within.ensures.next.same_gathered)
