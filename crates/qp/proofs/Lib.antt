@@ -1,2 +1,10 @@
+pub mod Feeds
+pub mod InRows
+pub mod Inverse
+pub mod ItemLemmas
 pub mod LawLemmas
+pub mod Readback
 pub mod Reading
+pub mod Scanning
+pub mod StrictLemmas
+pub mod Stripped

@@ -1,14 +1,12 @@
 -- Lemmas on the text, the lines and the parts of quoted-printable input.
-use Rattle.std.proofs.Common.{◌≡◌, ℕ, ◌+◌, ◌-◌, ◌<◌, ◌≤◌, get_or, drop, Bool, true, false, cond, not, ◌||◌, eqb, nat_lt, Some, None, List, [], ◌∷◌, ◌++◌, length, take, refl, ap, sym, ◌∙◌, arith}
-use Rattle.std.specs.List.{suffix_len, slice_split, All, position, position_or_len}
-use Rattle.std.proofs.lemmas.List.{append_assoc, take-append-drop, length-take, get_or-take, drop_more, drop_all, take-append-le, take_all, length_push, append-nil, reverse-append}
-use Rattle.std.proofs.lemmas.List.Elements.{filter-append, All-filter, All-from_get_or}
-use Rattle.std.proofs.lemmas.List.Quantifiers.{position-Some}
-use Rattle.std.proofs.lemmas.Bool.{eqb-true, ltb-false}
+use Rattle.std.proofs.Common.{◌≡◌, ℕ, ◌+◌, ◌-◌, ◌<◌, ◌≤◌, get_or, drop, Bool, true, false, cond, not, ◌||◌, eqb, List, [], ◌∷◌, ◌++◌, length, take, refl, ap, sym, ◌∙◌, arith}
+use Rattle.std.specs.List.{suffix_len, slice_split, list_all, All}
+use Rattle.std.proofs.lemmas.List.{append_assoc, take-append-drop, drop_more, drop_all, take-append-le, take_all, length_push, append-nil, reverse-append}
+use Rattle.std.proofs.lemmas.List.Elements.{filter-append, All-filter}
+use Rattle.std.proofs.lemmas.Bool.{and_parts, not-true}
 use Rattle.std.proofs.lemmas.List.Splits.{slice_split_none, slice_split_at, length-slice_split}
-use Rattle.std.proofs.lemmas.List.Sums.{fails_before_first}
 use Rattle.qp.specs.Text.{is_text_octet, is_line_padding, kept, trimmed, lines}
-use Rattle.qp.specs.Line.{Part, literal, escape, cut_escape, soft_break, parts, values, ends_soft, part_value, is_soft_break, escape_value, line_value}
+use Rattle.qp.specs.Line.{Part, literal, escape, cut_escape, soft_break, is_literal, parts, values, ends_soft, part_value, is_soft_break, escape_value, line_value}
 use Rattle.qp.specs.Robust.{joined, line_end, robust}
 
 pub kept_yes : (x : ℕ) (xs : List ℕ) → is_text_octet x ≡ true → kept (x ∷ xs) ≡ x ∷ kept xs
@@ -121,6 +119,40 @@ pub soft_after_literal : (text rest : List ℕ) (b : ℕ) → eqb b 61 ≡ false
 soft_after_literal text rest b h t =
     sym (ap ends_soft (ap parts t ∙ parts_literal b rest h) ∙ ends_soft-cons (literal b) (parts rest))
 
+-- a run of octets that stand for themselves
+pub kept_run : (run : ℕ) (text : List ℕ) → list_all is_literal (take run text) ≡ true → kept text ≡ take run text ++ kept (drop run text)
+kept_run run text h = ap kept (sym (take-append-drop run text)) ∙ by_front (take run text) h
+  where
+    by_front : (front : List ℕ) → list_all is_literal front ≡ true → kept (front ++ drop run text) ≡ front ++ kept (drop run text)
+    by_front [] h = refl
+    by_front (b ∷ front) h =
+        let here = and_parts (is_literal b) (list_all is_literal front) h in
+        let text_octet = and_parts (is_text_octet b) (not (eqb b 61)) here.0 in
+        kept_yes b (front ++ drop run text) text_octet.0 ∙ ap (λ k. b ∷ k) (by_front front here.1)
+
+values_run : (front rest : List ℕ) → list_all is_literal front ≡ true → values (parts (front ++ rest)) ≡ front ++ values (parts rest)
+values_run [] rest h = refl
+values_run (b ∷ front) rest h =
+    let here = and_parts (is_literal b) (list_all is_literal front) h in
+    let other = not-true (eqb b 61) (and_parts (is_text_octet b) (not (eqb b 61)) here.0).1 in
+    ap values (parts_literal b (front ++ rest) other) ∙ values-cons (literal b) (parts (front ++ rest)) ∙ ap (λ v. b ∷ v) (values_run front rest here.1)
+
+soft_run : (front rest : List ℕ) → list_all is_literal front ≡ true → ends_soft (parts (front ++ rest)) ≡ ends_soft (parts rest)
+soft_run [] rest h = refl
+soft_run (b ∷ front) rest h =
+    let here = and_parts (is_literal b) (list_all is_literal front) h in
+    let other = not-true (eqb b 61) (and_parts (is_text_octet b) (not (eqb b 61)) here.0).1 in
+    ap ends_soft (parts_literal b (front ++ rest) other) ∙ ends_soft-cons (literal b) (parts (front ++ rest)) ∙ soft_run front rest here.1
+
+pub value_after_run : (out total text front rest : List ℕ) → list_all is_literal front ≡ true → text ≡ front ++ rest → out ++ values (parts text) ≡ total → (out ++ front) ++ values (parts rest) ≡ total
+value_after_run out total text front rest h t e =
+    append_assoc out front (values (parts rest))
+    ∙ ap (λ w. out ++ w) (sym (ap (λ t. values (parts t)) t ∙ values_run front rest h))
+    ∙ e
+
+pub soft_after_run : (text front rest : List ℕ) → list_all is_literal front ≡ true → text ≡ front ++ rest → ends_soft (parts rest) ≡ ends_soft (parts text)
+soft_after_run text front rest h t = sym (ap (λ t. ends_soft (parts t)) t ∙ soft_run front rest h)
+
 pub parts_at_escape : (text second third rest : List ℕ) (b u v : ℕ) → eqb b 61 ≡ true → text ≡ b ∷ second → second ≡ u ∷ third → third ≡ v ∷ rest → parts text ≡ escape u v ∷ parts rest
 parts_at_escape text second third rest b u v h e f g = rw (e, f, g) (parts_escape b u v rest h)
 
@@ -183,25 +215,3 @@ robust_line line rest one =
     ap (λ t. joined (slice_split (λ b. eqb b 10) t)) (kept-append line (10 ∷ rest) ∙ ap (λ t. kept line ++ t) (kept_yes 10 rest refl))
     ∙ ap joined (slice_split_at (λ b. eqb b 10) (kept line) 10 (kept rest) (kept_one_line line one) refl)
     ∙ joined_more (kept line) (lines (kept rest)) (lines_some (kept rest))
-
-passes_none : (p : ℕ → Bool) (xs : List ℕ) → position p xs ≡ None → All (λ b. p b ≡ false) xs
-passes_none p xs h = All-from_get_or (λ b. p b ≡ false) xs 0 (λ i within. fails_before_first p xs i 0 (by_test (nat_lt (position_or_len p xs) (length xs)) refl i within))
-  where
-    by_test : (b : Bool) → nat_lt (position_or_len p xs) (length xs) ≡ b → (i : ℕ) → i < length xs → i < position_or_len p xs
-    by_test true e i within = let wrong : Some (position_or_len p xs) ≡ None = rw e at h in cc
-    by_test false e i within = let past : length xs ≤ position_or_len p xs = ltb-false (position_or_len p xs) (length xs) e in omega arith
-
-pub robust_no_line_feed : (text : List ℕ) → position (λ b. eqb b 10) text ≡ None → robust text ≡ line_value (kept text)
-robust_no_line_feed text h = robust_one_line text (passes_none (λ b. eqb b 10) text h)
-
-pub robust_line_feed : (text : List ℕ) (end : ℕ) → position (λ b. eqb b 10) text ≡ Some end → robust text ≡ line_value (kept (take end text)) ++ line_end (kept (take end text)) ++ robust (drop (end + 1) text)
-robust_line_feed text end h =
-    let at = position-Some (λ b. eqb b 10) text end 0 h in
-    let before : All (λ b. eqb b 10 ≡ false) (take end text) =
-    All-from_get_or (λ b. eqb b 10 ≡ false) (take end text) 0 (λ i within.
-    let below : i < end = omega (arith, length-take end text) in
-    rw (get_or-take end text i 0 below) (at.2 i below)) in
-    let feed : get_or text end 0 ≡ 10 = eqb-true (get_or text end 0) 10 at.1 in
-    let whole : text ≡ take end text ++ 10 ∷ drop (end + 1) text =
-    sym (take-append-drop end text) ∙ ap (λ t. take end text ++ t) (drop_more text end 0 at.0 ∙ ap (λ b. b ∷ drop (end + 1) text) feed) in
-    ap robust whole ∙ robust_line (take end text) (drop (end + 1) text) before

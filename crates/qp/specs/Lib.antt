@@ -1,5 +1,9 @@
+pub mod Items
+pub mod Layout
 pub mod Line
 pub mod Message
 pub mod Robust
+pub mod Rows
 pub mod Settings
+pub mod Strict
 pub mod Text

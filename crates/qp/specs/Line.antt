@@ -1,8 +1,12 @@
 -- What one line of quoted-printable text says (RFC 2045 section 6.7).
-use Rattle.std.specs.Prelude.{ℕ, ◌+◌, ◌*◌, Bool, true, false, ◌==◌, ◌&&◌, if◌then◌else◌, List, [], ◌∷◌}
+use Rattle.std.specs.Prelude.{ℕ, ◌+◌, ◌*◌, Bool, true, false, ◌==◌, ◌&&◌, not, if◌then◌else◌, List, [], ◌∷◌}
 use Rattle.std.specs.List.{flat_map, list_any}
 use Rattle.std.specs.Char.{digit_value, is_digit}
-use Rattle.qp.specs.Text.{trimmed}
+use Rattle.qp.specs.Text.{is_text_octet, trimmed}
+
+-- an octet that may stand in text, and stands for itself there (RFC 2045 6.7, rule 2)
+abbrev pub is_literal : ℕ → Bool
+is_literal b = is_text_octet b && not (b == 61)
 
 -- what is read at one place of a line: an octet that stands for itself (RFC 2045 6.7, rule 2), `=` and the two octets after it (rule 1), `=` and the one octet that the line still has (the NOTE on illegal substrings, case 3, at the end of each line here), or `=` alone at the line's end (rule 5)
 pub data Part : Type 0 where

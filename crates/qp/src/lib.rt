@@ -1,15 +1,21 @@
 //! Quoted-printable, the transfer encoding of RFC 2045 section 6.7.
 #![tactic(auto)]
 
-ghost use Rattle.std.specs.Prelude.{◌≡◌, IfOk, IsOkUnless};
+ghost use Rattle.std.specs.Prelude.{◌≡◌, ◌≤◌, Ok, Err, IfOk, IsOkUnless, string_bytes};
+ghost use Rattle.qp.specs.Items.{items};
+ghost use Rattle.qp.specs.Layout.{laid_out};
 ghost use Rattle.qp.specs.Robust.{robust};
-ghost use Rattle.qp.specs.Settings.{parse_mode};
+ghost use Rattle.qp.specs.Settings.{line_limit, input_mode, parse_mode};
+ghost use Rattle.qp.specs.Strict.{strict, decoded};
+ghost use Rattle.qp.specs.declared.QuotedPrintableError.{QuotedPrintableError};
 
 use std::alloc::{AllocError, Global};
 use std::fmt;
 
+mod encoder;
 pub mod laws;
 mod robust;
+mod strict;
 
 /// How strictly a decoder reads its input.
 #[derive(Clone, Debug, PartialEq, Eq, PartialOrd, Ord, Hash, Drop)]
@@ -166,28 +172,115 @@ impl From<AllocError> for QpError {
 }
 
 /// The bytes that quoted-printable `input` stands for (RFC 2045 section 6.7), by the default options
-/// with this parse mode, which must be `Robust`. Fails only for want of memory.
+/// with this parse mode. In strict mode the input's first fault is an error.
 pub fn decode(alloc: Global, input: &[u8], mode: ParseMode) -> Result<Vec<u8>, QpError>
-    requires { mode ≡ ParseMode.Robust }
     ensures value { IfOk result (λ bytes. bytes.items ≡ robust input.now) }
-    ensures memory_alone { IsOkUnless result QpError.Memory }
+    ensures decoded { IfOk result (λ bytes. decoded mode 76 input.now ≡ Ok bytes.items) }
+    ensures quoted { (fault : QuotedPrintableError) → result ≡ Err (QpError.Quoted fault) →
+        decoded mode 76 input.now ≡ Err fault }
+    ensures memory_alone { mode ≡ ParseMode.Robust → IsOkUnless result QpError.Memory }
 {
     decode_with_options(alloc, input, Options::default().parse_mode(mode))
 }
 
-/// The bytes that quoted-printable `input` stands for (RFC 2045 section 6.7), by these options, whose
-/// parse mode must be `Robust`. Fails only for want of memory.
+/// The bytes that quoted-printable `input` stands for (RFC 2045 section 6.7), by these options. In
+/// strict mode the input's first fault is an error: a byte that may not stand there, anywhere; then,
+/// line by line, a line longer than the limit or an escape that is cut, has no digits or has
+/// lowercase ones; then a soft line break at the end, behind a line that ends in a hard one.
 pub fn decode_with_options(
     alloc: Global,
     input: &[u8],
     options: Options,
 ) -> Result<Vec<u8>, QpError>
-    requires { parse_mode options ≡ ParseMode.Robust }
     ensures value { IfOk result (λ bytes. bytes.items ≡ robust input.now) }
-    ensures memory_alone { IsOkUnless result QpError.Memory }
+    ensures decoded { IfOk result (λ bytes.
+        decoded (parse_mode options) (line_limit options) input.now ≡ Ok bytes.items) }
+    ensures quoted { (fault : QuotedPrintableError) → result ≡ Err (QpError.Quoted fault) →
+        decoded (parse_mode options) (line_limit options) input.now ≡ Err fault }
+    ensures memory_alone { parse_mode options ≡ ParseMode.Robust → IsOkUnless result QpError.Memory }
 {
-    let _ = options;
-    Ok(robust::decode(alloc, input)?)
+    match options.parse_mode {
+        ParseMode::Robust => {
+            let bytes = robust::decode(alloc, input)?;
+            Ok(bytes)
+        }
+        ParseMode::Strict => decode_strictly(alloc, input, options.line_length_limit),
+    }
+}
+
+// The bytes that `input` stands for, where it has no fault.
+fn decode_strictly(alloc: Global, input: &[u8], limit: usize) -> Result<Vec<u8>, QpError>
+    ensures value { IfOk result (λ bytes. bytes.items ≡ robust input.now) }
+    ensures strict { IfOk result (λ bytes. strict limit input.now ≡ Ok bytes.items) }
+    ensures quoted { (fault : QuotedPrintableError) → result ≡ Err (QpError.Quoted fault) →
+        strict limit input.now ≡ Err fault }
+{
+    match strict::find_fault(input, limit) {
+        Some(fault) => Err(QpError::Quoted(fault)),
+        None => {
+            let bytes = robust::decode(alloc, input)?;
+            Ok(bytes)
+        }
+    }
+}
+
+/// Quoted-printable text of `input` as text (RFC 2045 section 6.7), in lines of at most 76 bytes: a CR LF
+/// pair is a line break.
+pub fn encode(alloc: Global, input: &[u8]) -> Result<Vec<u8>, AllocError>
+    ensures value { IfOk result (λ encoded.
+        encoded.items ≡ laid_out 76 (items InputMode.Text input.now)) }
+    ensures reads_back { IfOk result (λ encoded. strict 76 encoded.items ≡ Ok input.now) }
+{
+    let encoded = encoder::encode(alloc, input, 76, &InputMode::Text)?;
+    Ok(encoded)
+}
+
+/// Quoted-printable text of any `input` (RFC 2045 section 6.7), in lines of at most 76 bytes: a CR LF pair
+/// is two bytes like others.
+pub fn encode_binary(alloc: Global, input: &[u8]) -> Result<Vec<u8>, AllocError>
+    ensures value { IfOk result (λ encoded.
+        encoded.items ≡ laid_out 76 (items InputMode.Binary input.now)) }
+    ensures reads_back { IfOk result (λ encoded. strict 76 encoded.items ≡ Ok input.now) }
+{
+    let encoded = encoder::encode(alloc, input, 76, &InputMode::Binary)?;
+    Ok(encoded)
+}
+
+/// What `encode` gives, as a `String`.
+pub fn encode_to_str(alloc: Global, input: &[u8]) -> Result<String, AllocError>
+    ensures value { IfOk result (λ encoded.
+        string_bytes encoded ≡ laid_out 76 (items InputMode.Text input.now)) }
+    ensures reads_back { IfOk result (λ encoded. strict 76 (string_bytes encoded) ≡ Ok input.now) }
+{
+    let encoded = encoder::encode(alloc, input, 76, &InputMode::Text)?;
+    Ok(unsafe { String::from_utf8_unchecked(encoded) })
+}
+
+/// What `encode_binary` gives, as a `String`.
+pub fn encode_binary_to_str(alloc: Global, input: &[u8]) -> Result<String, AllocError>
+    ensures value { IfOk result (λ encoded.
+        string_bytes encoded ≡ laid_out 76 (items InputMode.Binary input.now)) }
+    ensures reads_back { IfOk result (λ encoded. strict 76 (string_bytes encoded) ≡ Ok input.now) }
+{
+    let encoded = encoder::encode(alloc, input, 76, &InputMode::Binary)?;
+    Ok(unsafe { String::from_utf8_unchecked(encoded) })
+}
+
+/// Quoted-printable text of `input` (RFC 2045 section 6.7) by these options, whose line limit is at least
+/// 6 bytes. Strict decoding with the same options gives the input back.
+pub fn encode_with_options(
+    alloc: Global,
+    input: &[u8],
+    options: Options,
+) -> Result<String, AllocError>
+    requires { 6 ≤ line_limit options }
+    ensures value { IfOk result (λ encoded.
+        string_bytes encoded ≡ laid_out (line_limit options) (items (input_mode options) input.now)) }
+    ensures reads_back { IfOk result (λ encoded.
+        strict (line_limit options) (string_bytes encoded) ≡ Ok input.now) }
+{
+    let encoded = encoder::encode(alloc, input, options.line_length_limit, &options.input_mode)?;
+    Ok(unsafe { String::from_utf8_unchecked(encoded) })
 }
 
 #[cfg(test)]

@@ -86,6 +86,231 @@ const ROWS: [(&str, &[u8], &[u8]); 34] = [
     ("an escaped equals sign", b"=3D3D", b"=3D"),
 ];
 
+const STRICT_ROWS: [(&str, &[u8], &[u8]); 11] = [
+    ("empty", b"", b""),
+    ("a soft line break at the end, alone", b"a=\r\n", b"a"),
+    (
+        "spaces at the ends of lines",
+        b"hello  \r\nx =  \r\ny",
+        b"hello\r\nx y",
+    ),
+    ("a soft line break alone", b"=\r\n", b""),
+    ("a line break alone", b"\r\n", b"\r\n"),
+    (
+        "76 digits",
+        b"1234567890123456789012345678901234567890123456789012345678901234567890123456",
+        b"1234567890123456789012345678901234567890123456789012345678901234567890123456",
+    ),
+    (
+        "76 digits and a line break",
+        b"1234567890123456789012345678901234567890123456789012345678901234567890123456\r\n",
+        b"1234567890123456789012345678901234567890123456789012345678901234567890123456\r\n",
+    ),
+    (
+        "76 digits and two spaces",
+        b"1234567890123456789012345678901234567890123456789012345678901234567890123456  ",
+        b"1234567890123456789012345678901234567890123456789012345678901234567890123456",
+    ),
+    (
+        "upper-case escapes",
+        b"hello=3Dworld=0D=0A",
+        b"hello=world\r\n",
+    ),
+    ("two soft line breaks at the end", b"a=\r\nb=", b"ab"),
+    ("an empty line at the end", b"a\r\n\r\n", b"a\r\n\r\n"),
+];
+
+const FAULTS: [(&str, &[u8], QuotedPrintableError); 23] = [
+    (
+        "a hard line, then a soft one at the end",
+        b"x\r\na=\r\n",
+        QuotedPrintableError::IncompleteHexOctet,
+    ),
+    (
+        "the same without a line break",
+        b"x\r\na=",
+        QuotedPrintableError::IncompleteHexOctet,
+    ),
+    (
+        "77 digits",
+        b"12345678901234567890123456789012345678901234567890123456789012345678901234567",
+        QuotedPrintableError::LineTooLong,
+    ),
+    (
+        "77 digits in the second line",
+        b"a\r\n12345678901234567890123456789012345678901234567890123456789012345678901234567",
+        QuotedPrintableError::LineTooLong,
+    ),
+    (
+        "lowercase digits",
+        b"=3d",
+        QuotedPrintableError::LowercaseHexOctet,
+    ),
+    ("no digits", b"=3m", QuotedPrintableError::InvalidHexOctet),
+    (
+        "a word behind an equals sign",
+        b"hello =world=",
+        QuotedPrintableError::InvalidHexOctet,
+    ),
+    (
+        "a cut escape",
+        b"hello world=x",
+        QuotedPrintableError::IncompleteHexOctet,
+    ),
+    (
+        "a cut escape before spaces",
+        b"=x  \r\ny",
+        QuotedPrintableError::IncompleteHexOctet,
+    ),
+    (
+        "LF behind a letter",
+        b"a\n",
+        QuotedPrintableError::InvalidByte,
+    ),
+    (
+        "LF before a letter",
+        b"\na",
+        QuotedPrintableError::InvalidByte,
+    ),
+    (
+        "CR within a line",
+        b"a\ra",
+        QuotedPrintableError::InvalidByte,
+    ),
+    ("CR at the end", b"aa\r", QuotedPrintableError::InvalidByte),
+    (
+        "two CRs and an LF",
+        b"a\r\r\n",
+        QuotedPrintableError::InvalidByte,
+    ),
+    (
+        "bytes past ASCII",
+        b"\xc3\xbf",
+        QuotedPrintableError::InvalidByte,
+    ),
+    ("DEL", b"a\x7f", QuotedPrintableError::InvalidByte),
+    (
+        "an invalid byte behind a line that is too long",
+        b"12345678901234567890123456789012345678901234567890123456789012345678901234567\x00",
+        QuotedPrintableError::InvalidByte,
+    ),
+    (
+        "an invalid byte behind a wrong escape",
+        b"=3m\r\n\x00",
+        QuotedPrintableError::InvalidByte,
+    ),
+    (
+        "a wrong escape before a line that is too long",
+        b"=3m\r\n12345678901234567890123456789012345678901234567890123456789012345678901234567",
+        QuotedPrintableError::InvalidHexOctet,
+    ),
+    (
+        "a line that is too long, with a wrong escape",
+        b"=3m12345678901234567890123456789012345678901234567890123456789012345678901234567",
+        QuotedPrintableError::LineTooLong,
+    ),
+    (
+        "the first of two faulty escapes",
+        b"=3d=3m",
+        QuotedPrintableError::LowercaseHexOctet,
+    ),
+    (
+        "one lowercase digit and one letter that is none",
+        b"=ag",
+        QuotedPrintableError::InvalidHexOctet,
+    ),
+    (
+        "a faulty escape before the end's fault",
+        b"x\r\n=3d=",
+        QuotedPrintableError::LowercaseHexOctet,
+    ),
+];
+
+const TEXT_ROWS: [(&str, &[u8], &[u8]); 20] = [
+    ("empty", b"", b""),
+    (
+        "76 letters and one",
+        b"XXXXXXXXXXXXXXXXXXXXXXXXXXXXXXXXXXXXXXXXXXXXXXXXXXXXXXXXXXXXXXXXXXXXXXXXXXXXY",
+        b"XXXXXXXXXXXXXXXXXXXXXXXXXXXXXXXXXXXXXXXXXXXXXXXXXXXXXXXXXXXXXXXXXXXXXXXXXXX=\r\nXY",
+    ),
+    (
+        "76 letters",
+        b"XXXXXXXXXXXXXXXXXXXXXXXXXXXXXXXXXXXXXXXXXXXXXXXXXXXXXXXXXXXXXXXXXXXXXXXXXXXX",
+        b"XXXXXXXXXXXXXXXXXXXXXXXXXXXXXXXXXXXXXXXXXXXXXXXXXXXXXXXXXXXXXXXXXXXXXXXXXXXX",
+    ),
+    ("two CRs, LF", b"a\r\r\nb", b"a=0D\r\nb"),
+    (
+        "bytes past ASCII and an equals sign",
+        b"hello, \xe2\x82\xac zone!",
+        b"hello, =E2=82=AC zone!",
+    ),
+    ("CR", b"\r", b"=0D"),
+    ("two CRs", b"\r\r", b"=0D=0D"),
+    ("CR and an equals sign", b"\r=", b"=0D=3D"),
+    ("two spaces", b"  ", b" =20"),
+    (
+        "a space before a line break",
+        b"this \r\nhas",
+        b"this=20\r\nhas",
+    ),
+    (
+        "77 letters and one",
+        b"XXXXXXXXXXXXXXXXXXXXXXXXXXXXXXXXXXXXXXXXXXXXXXXXXXXXXXXXXXXXXXXXXXXXXXXXXXXXXY",
+        b"XXXXXXXXXXXXXXXXXXXXXXXXXXXXXXXXXXXXXXXXXXXXXXXXXXXXXXXXXXXXXXXXXXXXXXXXXXX=\r\nXXY",
+    ),
+    (
+        "72 letters, an escape, a letter",
+        b"XXXXXXXXXXXXXXXXXXXXXXXXXXXXXXXXXXXXXXXXXXXXXXXXXXXXXXXXXXXXXXXXXXXXXXXX\x00Y",
+        b"XXXXXXXXXXXXXXXXXXXXXXXXXXXXXXXXXXXXXXXXXXXXXXXXXXXXXXXXXXXXXXXXXXXXXXXX=00Y",
+    ),
+    (
+        "73 letters, an escape, a letter",
+        b"XXXXXXXXXXXXXXXXXXXXXXXXXXXXXXXXXXXXXXXXXXXXXXXXXXXXXXXXXXXXXXXXXXXXXXXXX\x00Y",
+        b"XXXXXXXXXXXXXXXXXXXXXXXXXXXXXXXXXXXXXXXXXXXXXXXXXXXXXXXXXXXXXXXXXXXXXXXXX=\r\n=00Y",
+    ),
+    (
+        "74 letters, an escape, a letter",
+        b"XXXXXXXXXXXXXXXXXXXXXXXXXXXXXXXXXXXXXXXXXXXXXXXXXXXXXXXXXXXXXXXXXXXXXXXXXX\x00Y",
+        b"XXXXXXXXXXXXXXXXXXXXXXXXXXXXXXXXXXXXXXXXXXXXXXXXXXXXXXXXXXXXXXXXXXXXXXXXXX=\r\n=00Y",
+    ),
+    (
+        "75 letters, an escape, a letter",
+        b"XXXXXXXXXXXXXXXXXXXXXXXXXXXXXXXXXXXXXXXXXXXXXXXXXXXXXXXXXXXXXXXXXXXXXXXXXXX\x00Y",
+        b"XXXXXXXXXXXXXXXXXXXXXXXXXXXXXXXXXXXXXXXXXXXXXXXXXXXXXXXXXXXXXXXXXXXXXXXXXXX=\r\n=00Y",
+    ),
+    (
+        "a break between two escapes",
+        b"XXXXXXXXXXXXXXXXXXXXXXXXXXXXXXXXXXXXXXXXXXXXXXXXXXXXXXXXXXXXXXXXXXXXXX=X==Y",
+        b"XXXXXXXXXXXXXXXXXXXXXXXXXXXXXXXXXXXXXXXXXXXXXXXXXXXXXXXXXXXXXXXXXXXXXX=3DX=\r\n=3D=3DY",
+    ),
+    (
+        "75 letters, a space, a line break",
+        b"XXXXXXXXXXXXXXXXXXXXXXXXXXXXXXXXXXXXXXXXXXXXXXXXXXXXXXXXXXXXXXXXXXXXXXXXXXX \r\n",
+        b"XXXXXXXXXXXXXXXXXXXXXXXXXXXXXXXXXXXXXXXXXXXXXXXXXXXXXXXXXXXXXXXXXXXXXXXXXXX=\r\n=20\r\n",
+    ),
+    (
+        "75 letters and a tab",
+        b"XXXXXXXXXXXXXXXXXXXXXXXXXXXXXXXXXXXXXXXXXXXXXXXXXXXXXXXXXXXXXXXXXXXXXXXXXXX\t",
+        b"XXXXXXXXXXXXXXXXXXXXXXXXXXXXXXXXXXXXXXXXXXXXXXXXXXXXXXXXXXXXXXXXXXXXXXXXXXX=\r\n=09",
+    ),
+    (
+        "76 letters and a line break",
+        b"XXXXXXXXXXXXXXXXXXXXXXXXXXXXXXXXXXXXXXXXXXXXXXXXXXXXXXXXXXXXXXXXXXXXXXXXXXXX\r\nY",
+        b"XXXXXXXXXXXXXXXXXXXXXXXXXXXXXXXXXXXXXXXXXXXXXXXXXXXXXXXXXXXXXXXXXXXXXXXXXXXX\r\nY",
+    ),
+    ("LF", b"a\nb", b"a=0Ab"),
+];
+
+const BINARY_ROWS: [(&str, &[u8], &[u8]); 3] = [
+    ("a line break", b"foo\r\n", b"foo=0D=0A"),
+    ("a space and a line break", b" \r\n", b"=20=0D=0A"),
+    (
+        "fifteen line breaks",
+        b"\r\n\r\n\r\n\r\n\r\n\r\n\r\n\r\n\r\n\r\n\r\n\r\n\r\n\r\n\r\n",
+        b"=0D=0A=0D=0A=0D=0A=0D=0A=0D=0A=0D=0A=0D=0A=0D=0A=0D=0A=0D=0A=0D=0A=0D=0A=0D=\r\n=0A=0D=0A=0D=0A",
+    ),
+];
+
 #[test]
 fn decodes_robustly(rt: HostRuntime) -> Result<(), Fail> {
     for (name, input, want) in ROWS {
@@ -133,6 +358,194 @@ fn shows_errors(rt: HostRuntime) -> Result<(), Fail> {
     for (error, want) in &rows {
         let text = error.to_string(rt.alloc())?;
         assert_eq!(rt; text.as_str(), *want);
+    }
+    Ok(())
+}
+
+#[test]
+fn decodes_strictly(rt: HostRuntime) -> Result<(), Fail> {
+    for (name, input, want) in STRICT_ROWS {
+        let decoded = decode(rt.alloc(), input, ParseMode::Strict)?;
+        assert_eq!(rt; decoded.as_slice(), want, "{name}");
+    }
+    Ok(())
+}
+
+#[test]
+fn refuses_the_first_fault(rt: HostRuntime) -> Result<(), Fail> {
+    for (name, input, want) in FAULTS {
+        let answer = decode(rt.alloc(), input, ParseMode::Strict);
+        assert!(rt; answer == Err(QpError::Quoted(want)), "{name}");
+    }
+    Ok(())
+}
+
+#[test]
+fn keeps_a_line_limit(rt: HostRuntime) -> Result<(), Fail> {
+    let strict = Options::default().parse_mode(ParseMode::Strict);
+    let seven = strict.clone()?.line_length_limit(7);
+    let decoded = decode_with_options(rt.alloc(), b"1234567\r\n", seven)?;
+    assert_eq!(rt; decoded.as_slice(), b"1234567\r\n".as_slice());
+    let six = strict.line_length_limit(6);
+    let answer = decode_with_options(rt.alloc(), b"1234567\r\n", six);
+    assert!(rt; answer == Err(QpError::Quoted(QuotedPrintableError::LineTooLong)));
+    Ok(())
+}
+
+#[test]
+fn encodes_text(rt: HostRuntime) -> Result<(), Fail> {
+    for (name, input, want) in TEXT_ROWS {
+        let text = encode_to_str(rt.alloc(), input)?;
+        assert_eq!(rt; text.as_bytes(), want, "{name}");
+        let bytes = encode(rt.alloc(), input)?;
+        assert_eq!(rt; bytes.as_slice(), want, "{name}");
+    }
+    Ok(())
+}
+
+#[test]
+fn encodes_bytes(rt: HostRuntime) -> Result<(), Fail> {
+    for (name, input, want) in BINARY_ROWS {
+        let text = encode_binary_to_str(rt.alloc(), input)?;
+        assert_eq!(rt; text.as_bytes(), want, "{name}");
+        let bytes = encode_binary(rt.alloc(), input)?;
+        assert_eq!(rt; bytes.as_slice(), want, "{name}");
+    }
+    Ok(())
+}
+
+#[test]
+fn encodes_with_options(rt: HostRuntime) -> Result<(), Fail> {
+    let least = Options::default().line_length_limit(6);
+    let text = encode_with_options(rt.alloc(), b"\x00\x00\x00", least)?;
+    assert_eq!(rt; text.as_bytes(), b"=00=\r\n=00=00".as_slice());
+    let binary = Options::default().input_mode(InputMode::Binary);
+    let text = encode_with_options(rt.alloc(), b"foo\r\n", binary)?;
+    assert_eq!(rt; text.as_bytes(), b"foo=0D=0A".as_slice());
+    Ok(())
+}
+
+// An item of the slow encoder below.
+#[derive(Clone, Copy)]
+enum Item {
+    Break,
+    Plain(u8),
+    Escaped(u8),
+}
+
+// The items of an input, as a list.
+fn slow_items(alloc: Global, input: &[u8], text: bool) -> Result<Vec<Item>, AllocError> {
+    let mut items = Vec::new(alloc);
+    let mut skip = false;
+    for (i, byte) in input.iter().enumerate() {
+        if skip {
+            skip = false;
+            continue;
+        }
+        let next = input.get(i.saturating_add(1)).copied();
+        let second = input.get(i.saturating_add(2)).copied();
+        if *byte == b'\r' && next == Some(b'\n') {
+            skip = true;
+            if text {
+                items.push(Item::Break)?;
+            } else {
+                items.push(Item::Escaped(b'\r'))?;
+                items.push(Item::Escaped(b'\n'))?;
+            }
+            continue;
+        }
+        let ends = next.is_none() || (next == Some(b'\r') && second == Some(b'\n'));
+        let item = match *byte {
+            b'\t' | b' ' if !ends => Item::Plain(*byte),
+            b'!'..=b'<' | b'>'..=b'~' => Item::Plain(*byte),
+            _ => Item::Escaped(*byte),
+        };
+        items.push(item)?;
+    }
+    Ok(items)
+}
+
+// Items in lines, each looked at with the one behind it.
+fn slow_layout(alloc: Global, items: &[Item], limit: usize) -> Result<Vec<u8>, AllocError> {
+    let mut out = Vec::new(alloc);
+    let mut used = 0usize;
+    for (i, item) in items.iter().enumerate() {
+        let more = match items.get(i.saturating_add(1)) {
+            None | Some(Item::Break) => false,
+            Some(_) => true,
+        };
+        let width = match item {
+            Item::Break => 0usize,
+            Item::Plain(_) => 1,
+            Item::Escaped(_) => 3,
+        };
+        let reach = used.saturating_add(width);
+        if width > 0 && (reach > limit || (reach == limit && more)) {
+            out.extend_from_slice(b"=\r\n")?;
+            used = 0;
+        }
+        used = used.saturating_add(width);
+        match item {
+            Item::Break => {
+                out.extend_from_slice(b"\r\n")?;
+                used = 0;
+            }
+            Item::Plain(byte) => out.push(*byte)?,
+            Item::Escaped(byte) => {
+                let digits = b"0123456789ABCDEF";
+                out.push(b'=')?;
+                out.push(digits[usize::from(*byte / 16)])?;
+                out.push(digits[usize::from(*byte % 16)])?;
+            }
+        }
+    }
+    Ok(out)
+}
+
+// Bytes that look random, of which many are letters, white space and line breaks.
+fn mixed_bytes(alloc: Global, len: usize, seed: u32) -> Result<Vec<u8>, AllocError> {
+    let mut bytes = Vec::new(alloc);
+    let mut state = seed;
+    for _ in 0..len {
+        state = state.wrapping_mul(1_664_525).wrapping_add(1_013_904_223);
+        let high = state >> 24;
+        let byte = match high % 16 {
+            0 => b' ',
+            1 => b'\t',
+            2 | 3 => b'\r',
+            4 | 5 => b'\n',
+            6 => b'=',
+            7 => 200,
+            _ => 97 + (high % 26) as u8,
+        };
+        bytes.push(byte)?;
+    }
+    Ok(bytes)
+}
+
+#[test]
+fn encodes_as_the_slow_encoder(rt: HostRuntime) -> Result<(), Fail> {
+    for len in 0..40usize {
+        for limit in 6..16usize {
+            let input = mixed_bytes(rt.alloc(), len, limit as u32 * 1000 + len as u32)?;
+            for text in [true, false] {
+                let items = slow_items(rt.alloc(), &input, text)?;
+                let want = slow_layout(rt.alloc(), &items, limit)?;
+                let mode = if text {
+                    InputMode::Text
+                } else {
+                    InputMode::Binary
+                };
+                let options = Options::default().line_length_limit(limit).input_mode(mode);
+                let encoded = encode_with_options(rt.alloc(), &input, options)?;
+                assert_eq!(rt; encoded.as_bytes(), want.as_slice());
+                let back = Options::default()
+                    .line_length_limit(limit)
+                    .parse_mode(ParseMode::Strict);
+                let decoded = decode_with_options(rt.alloc(), encoded.as_bytes(), back)?;
+                assert_eq!(rt; decoded.as_slice(), input.as_slice());
+            }
+        }
     }
     Ok(())
 }

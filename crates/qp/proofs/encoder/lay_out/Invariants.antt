@@ -1,0 +1,13 @@
+use Rattle.std.proofs.Common.{◌≡◌, ◌≤◌, ◌++◌, length}
+use Rattle.qp.specs.Items.{items}
+use Rattle.qp.specs.Layout.{laid_out_from, laid_out}
+use Rattle.qp.proofs.encoder.lay_out.Given as goal
+
+abbrev pub invariant-loop-byte : goal.invariant-loop-byte
+invariant-loop-byte l = record {
+  value : l.encoded.items ++ laid_out_from l.limit l.used (items l.mode l.rest) ≡ laid_out l.limit (items l.mode l.input);
+  most : l.used ≤ l.limit;
+}
+
+abbrev pub decreases-loop-byte : goal.decreases-loop-byte
+decreases-loop-byte l = length l.rest
