@@ -2,7 +2,7 @@
 use Rattle.std.proofs.Common.{◌≡◌, ◌≢◌, ◌⊎◌, ⊎_elim, inl, inr, ℕ, ◌<◌, Bool, true, false, ◌||◌, ◌==◌, cond, Some, None, Result, Ok, Err, List, [], ◌∷◌, ◌++◌, length, map, refl, sym, ap, ◌∙◌, subst, arith, IsSomeAnd}
 use Rattle.std.specs.Option.{option_or}
 use Rattle.enc_front.specs.Indexes.{Indexes}
-use Rattle.enc_front.specs.Charsets.{charset, charset_text}
+use Rattle.enc_front.specs.Charset.{charset, charset_text}
 use Rattle.words.specs.declared.strategy.RecoverStrategy.{RecoverStrategy}
 use Rattle.words.specs.declared.parser.Encoding.{Encoding}
 use Rattle.words.specs.declared.parser.Encoding.TheVariants.{B, Q}

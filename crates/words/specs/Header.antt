@@ -5,7 +5,7 @@ use Rattle.std.specs.Str.{is_utf8}
 use Rattle.std.specs.Str.Lossy.{utf8_valid_len}
 use Rattle.qp.specs.Robust.{robust}
 use Rattle.enc_front.specs.Indexes.{Indexes}
-use Rattle.enc_front.specs.Charsets.{charset_text}
+use Rattle.enc_front.specs.Charset.{charset_text}
 use Rattle.words.specs.declared.strategy.RecoverStrategy.{RecoverStrategy}
 use Rattle.words.specs.declared.parser.Encoding.{Encoding}
 use Rattle.words.specs.declared.parser.Encoding.TheVariants.{B, Q}

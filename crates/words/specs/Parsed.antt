@@ -1,10 +1,10 @@
 -- Words whose charsets and encodings are found, and their texts.
 use Rattle.std.specs.Prelude.{ℕ, Option, Result, Ok, Err, List, map, IsTrue, IfSome}
 use Rattle.std.specs.Option.{option_map, option_map_or}
-use Rattle.enc_front.specs.declared.names.Encoding as front
+use Rattle.enc_front.specs.declared.encoding.Encoding as front
 use Rattle.enc_front.specs.Indexes.{Indexes, known}
-use Rattle.enc_front.specs.Charsets as charsets
-use Rattle.enc_front.specs.Charsets.{charset, marked_text, ascii_text}
+use Rattle.enc_front.specs.Charset as charsets
+use Rattle.enc_front.specs.Charset.{charset, marked_text, ascii_text}
 use Rattle.words.specs.declared.parser.Encoding.{Encoding}
 use Rattle.words.specs.declared.parser.ParserError.{ParserError}
 use Rattle.words.specs.declared.parser.ParsedEncodedWord.{ParsedEncodedWord}

@@ -1,7 +1,7 @@
 //! The text of parsed words and of clear text (RFC 2047, sections 4 and 6).
 ghost use Rattle.std.specs.Prelude.{◌≡◌, ◌⊎◌, Ok, Err, Some, None, [], map, All, IsTrue, IfOk, IfErr, IfSome, string_bytes};
 ghost use Rattle.std.specs.Option.{option_map};
-ghost use Rattle.enc_front.specs.Charsets.{encoding_of};
+ghost use Rattle.enc_front.specs.Charset.{encoding_of};
 ghost use Rattle.enc_front.specs.Indexes.{indexes_of, known};
 ghost use Rattle.words.specs.declared.evaluator.EvaluatorError.TheVariants.{Memory, DecodeBase64Error};
 ghost use Rattle.words.specs.Base64.{b_value};
