@@ -1,1 +1,11 @@
+mod Appended
+mod Asking
+mod Copying
+mod Delivered
+mod Ended
+mod Matching
+mod NamedFiles
+mod Reading
+mod Streaming
+mod Unwrapping
 mod Written

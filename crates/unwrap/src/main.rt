@@ -3,17 +3,20 @@
 
 ghost use Rattle.std.specs.Prelude.{◌≡◌, ◌⊎◌, IfErr};
 
-pub mod commands;
-pub mod finish;
-pub mod memory;
-pub mod moving;
-pub mod outside;
-pub mod stream;
+mod command_line;
+mod deliver;
+pub mod devices;
+pub mod header;
+mod moving;
+mod quoted;
+pub mod run;
+pub mod status;
+pub mod text;
 
-use crate::commands::run;
-use crate::finish::Status;
-use crate::memory::MemoryShelf;
-use crate::stream::StreamSink;
+use crate::devices::memory::MemoryShelf;
+use crate::devices::stream::StreamSink;
+use crate::run::run;
+use crate::status::Status;
 use enc_io::StreamSource;
 use std::env;
 use std::env::Env;

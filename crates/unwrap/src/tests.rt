@@ -1,11 +1,13 @@
 //! What no clause says: that the worked rows come out, and that memory was there.
 ghost use Rattle.std.specs.Prelude.{◌≤◌};
 
-use crate::commands::run;
-use crate::finish::Status;
-use crate::memory::{MemoryShelf, MemorySink};
-use crate::outside::{Shelf, ShelfError, Sink};
-use crate::stream::StreamSink;
+use crate::devices::memory::{MemoryShelf, MemorySink};
+use crate::devices::shelf::{Shelf, ShelfError};
+use crate::devices::sink::Sink;
+use crate::devices::stream::StreamSink;
+use crate::run::run;
+use crate::status::Status;
+use enc_front::Encoding;
 use enc_io::{Failed, MemorySource, Source, StreamSource};
 use std::alloc::{AllocError, Global};
 use std::io;
@@ -44,7 +46,7 @@ fn run_once(
 {
     let words = words_of(alloc, words)?;
     let mut shelf = MemoryShelf::new(Vec::new(alloc), Vec::new(alloc));
-    let room = vec![in alloc; 0u8; input.len().saturating_mul(3)]?;
+    let room = vec![in alloc; 0u8; input.len().saturating_mul(4)]?;
     let source = MemorySource::new(input, step, vec![in alloc; read]?);
     let mut out = MemorySink::new(room, step, vec![in alloc; write]?);
     let mut notes = MemorySink::new(Vec::new(alloc), 1, Vec::new(alloc));
@@ -127,7 +129,7 @@ fn rows(rt: HostRuntime) -> Result<(), Fail> {
         ("no encoding of this letter", b"=?utf-8?X?a?=", 1, ""),
         ("no encoding of two letters", b"=?utf-8?QQ?a?=", 1, ""),
         ("a cut mark", b"\xFF\xFE", 1, ""),
-        ("a mark", b"\xEF\xBB\xBFa", 20, ""),
+        ("a mark", b"\xEF\xBB\xBFa", 0, "a"),
         ("underscores at the end", b"=?utf-8?Q?a__?=", 0, "a"),
         ("an unknown charset", b"=?x-none?Q?=E9?=", 0, "\u{FFFD}"),
         ("a quoted charset", b"=?\"x\"?Q?a?=", 0, "a"),
@@ -184,11 +186,40 @@ fn faults(rt: HostRuntime) -> Result<(), Fail> {
 #[test]
 fn words_before_the_source(rt: HostRuntime) -> Result<(), Fail> {
     let alloc = rt.alloc();
-    let rows: [(&[&str], Status); 5] = [
+    let rows: [(&[&str], Status); 25] = [
         (&[], Status::Usage),
         (&["x"], Status::Usage),
-        (&["unwrap", "--strip-bom"], Status::Unbuilt),
-        (&["text"], Status::Unbuilt),
+        (&["unwrap", "--limit", "x"], Status::Usage),
+        (&["unwrap", "--buffer", "3"], Status::Usage),
+        (&["unwrap", "--buffer=1048577"], Status::Usage),
+        (&["unwrap", "--piece=0"], Status::Usage),
+        (&["unwrap", "--limit=1234567890"], Status::Usage),
+        (&["unwrap", "--limit="], Status::Usage),
+        (&["unwrap", "--strategy", "Abort"], Status::Usage),
+        (&["unwrap", "--encoding", "x"], Status::Usage),
+        (&["unwrap", "a=b"], Status::Usage),
+        (&["unwrap", "big5="], Status::Usage),
+        (&["unwrap", "big5"], Status::Usage),
+        (&["unwrap", "--strip-bom", "--strip-bom"], Status::Usage),
+        (&["unwrap", "--binary"], Status::Usage),
+        (&["unwrap", "--help"], Status::Usage),
+        (&["qp-encode", "--line", "5"], Status::Usage),
+        (&["qp-decode", "--line=999"], Status::Usage),
+        (&["make"], Status::Usage),
+        (&["make", "20001"], Status::Usage),
+        (
+            &["unwrap", "--encoding=euc-kr"],
+            Status::NoTable(Encoding::EucKr),
+        ),
+        (&["unwrap", "big5=f"], Status::Unbuilt),
+        (
+            &["text", "jis0208=a", "--encoding", "euc-jp", "jis0212=b"],
+            Status::Unbuilt,
+        ),
+        (
+            &["text", "--encoding", "big5"],
+            Status::NoTable(Encoding::Big5),
+        ),
         (&["make", "3"], Status::Unbuilt),
     ];
     for (words, status) in rows {
@@ -200,6 +231,322 @@ fn words_before_the_source(rt: HostRuntime) -> Result<(), Fail> {
         let mut buf = [0];
         assert_eq!(rt; end.source.read(&mut buf), Err(Failed));
         assert_eq!(rt; end.source.read(&mut buf), Ok(1));
+    }
+    Ok(())
+}
+
+#[test]
+fn options(rt: HostRuntime) -> Result<(), Fail> {
+    let alloc = rt.alloc();
+    let long = b"=?ISO-8859-1?Q?aaaaaaaaaaaaaaaaaaaaaaaaaaaaaaaaaaaaaaaaaaaaaaaaaaaaaaaaaaa?=";
+    let rows: [(&str, &[&str], &[u8], u8, &[u8]); 9] = [
+        (
+            "at the limit",
+            &["unwrap", "--limit", "3"],
+            b"abc",
+            0,
+            b"abc",
+        ),
+        ("past the limit", &["unwrap", "--limit=3"], b"abcd", 6, b""),
+        ("no byte", &["unwrap", "--limit=0"], b"a", 6, b""),
+        (
+            "a cut mark",
+            &["unwrap", "--strip-bom"],
+            b"\xFF\xFE",
+            0,
+            b"",
+        ),
+        (
+            "a marked header",
+            &["unwrap", "--buffer=4", "--piece=1"],
+            b"\xFF\xFE=\0?\0u\0t\0f\0-\08\0?\0q\0?\0a\0_\0?\0=\0",
+            0,
+            b"a",
+        ),
+        (
+            "a header by name",
+            &["unwrap", "--encoding", "windows-1252"],
+            b"\xE4=?utf-8?q?=C3=A4?=",
+            0,
+            b"\xC3\xA4\xC3\xA4",
+        ),
+        (
+            "76 bytes, as spelled",
+            &["unwrap", "--strategy", "skip"],
+            long,
+            0,
+            long,
+        ),
+        (
+            "76 bytes, decoded",
+            &["unwrap", "--strategy=decode", "--buffer=4", "--piece", "1"],
+            long,
+            0,
+            &long[15..74],
+        ),
+        (
+            "76 bytes, refused",
+            &["unwrap", "--strategy=abort"],
+            long,
+            1,
+            b"",
+        ),
+    ];
+    for (name, words, input, code, text) in rows {
+        let end = run_once(alloc, words, Vec::from_slice(alloc, input)?, 7, 0, 0)?;
+        assert_eq!(rt; end.status.code(), code, "{name}");
+        assert_eq!(rt; end.written.as_slice(), text, "{name}");
+    }
+    Ok(())
+}
+
+#[test]
+fn quoted(rt: HostRuntime) -> Result<(), Fail> {
+    let alloc = rt.alloc();
+    let digits = b"01234567890123456789012345678901234567890123456789012345678901234567890123456";
+    let rows: [(&str, &[&str], &[u8], u8, &[u8]); 16] = [
+        (
+            "a full line and more",
+            &["qp-encode", "--line=10"],
+            b"0123456789X",
+            0,
+            b"012345678=\r\n9X",
+        ),
+        (
+            "three zeroes in lines of six",
+            &["qp-encode", "--line", "6"],
+            b"\0\0\0",
+            0,
+            b"=00=\r\n=00=00",
+        ),
+        (
+            "a lone carriage return",
+            &["qp-encode"],
+            b"a\r\r\nb",
+            0,
+            b"a=0D\r\nb",
+        ),
+        (
+            "a line break among any bytes",
+            &["qp-encode", "--binary"],
+            b"foo\r\n",
+            0,
+            b"foo=0D=0A",
+        ),
+        (
+            "a text",
+            &["qp-encode"],
+            b"hello, \xE2\x82\xAC zone!",
+            0,
+            b"hello, =E2=82=AC zone!",
+        ),
+        ("too much", &["qp-encode", "--limit=3"], b"abcd", 6, b""),
+        ("a soft end", &["qp-decode", "--strict"], b"a=\r\n", 0, b"a"),
+        (
+            "a soft end behind a hard one",
+            &["qp-decode", "--strict"],
+            b"x\r\na=\r\n",
+            10,
+            b"",
+        ),
+        ("77 digits", &["qp-decode", "--strict"], digits, 10, b""),
+        (
+            "77 digits of 77",
+            &["qp-decode", "--strict", "--line", "77"],
+            digits,
+            0,
+            digits,
+        ),
+        ("lowercase", &["qp-decode", "--strict"], b"=3d", 10, b""),
+        ("lowercase, robust", &["qp-decode"], b"=3d", 0, b"="),
+        ("two equals signs", &["qp-decode"], b"==41", 0, b"==41"),
+        (
+            "no digits",
+            &["qp-decode"],
+            b"hello =world=",
+            0,
+            b"hello =world",
+        ),
+        (
+            "escapes",
+            &["qp-decode"],
+            b"hello=3Dworld=0D=0A",
+            0,
+            b"hello=world\r\n",
+        ),
+        ("beyond ASCII", &["qp-decode"], b"a\xC3\xBFb", 0, b"ab"),
+    ];
+    for (name, words, input, code, text) in rows {
+        let end = run_once(alloc, words, Vec::from_slice(alloc, input)?, 7, 0, 0)?;
+        assert_eq!(rt; end.status.code(), code, "{name}");
+        assert_eq!(rt; end.written.as_slice(), text, "{name}");
+    }
+    Ok(())
+}
+
+#[test]
+fn texts(rt: HostRuntime) -> Result<(), Fail> {
+    let alloc = rt.alloc();
+    let rows: [(&str, &[&str], &[u8], u8, &[u8]); 19] = [
+        (
+            "a cut unit",
+            &["text", "--buffer", "4", "--piece", "1"],
+            b"\xFF\xFEa\0\0",
+            0,
+            b"a\xEF\xBF\xBD",
+        ),
+        (
+            "UTF-16LE",
+            &["text"],
+            b"\xFF\xFEf\0o\0o\0b\0a\0r\0",
+            0,
+            b"foobar",
+        ),
+        ("a cut mark", &["text"], b"\xFF\xFE", 0, b"\xFF\xFE"),
+        (
+            "two marks",
+            &["text"],
+            b"\xEF\xBB\xBF\xEF\xBB\xBFa",
+            0,
+            b"\xEF\xBB\xBFa",
+        ),
+        (
+            "two marks, stripped",
+            &["text", "--strip-bom"],
+            b"\xEF\xBB\xBF\xEF\xBB\xBFa",
+            0,
+            b"a",
+        ),
+        (
+            "UTF-8 as it is",
+            &["text", "--utf8-passthru"],
+            b"\xEF\xBB\xBFfoo\xFFbar",
+            0,
+            b"\xEF\xBB\xBFfoo\xFFbar",
+        ),
+        (
+            "UTF-8 as it is, stripped",
+            &["text", "--utf8-passthru", "--strip-bom"],
+            b"\xEF\xBB\xBFfoo\xFFbar",
+            0,
+            b"foo\xFFbar",
+        ),
+        ("at the limit", &["text", "--limit", "3"], b"abc", 0, b"abc"),
+        ("past the limit", &["text", "--limit=3"], b"abcd", 6, b""),
+        (
+            "Big5 without an index",
+            &["text", "--encoding", "big5"],
+            b"a",
+            4,
+            b"",
+        ),
+        (
+            "UTF-16LE by name",
+            &["text", "--encoding", "utf-16le"],
+            b"\x16\x04",
+            0,
+            b"\xD0\x96",
+        ),
+        (
+            "UTF-16BE by name",
+            &["text", "--encoding=utf-16be"],
+            b"\x04\x16",
+            0,
+            b"\xD0\x96",
+        ),
+        (
+            "windows-1252 by name",
+            &["text", "--encoding", "latin1"],
+            b"\xA9",
+            0,
+            b"\xC2\xA9",
+        ),
+        ("one byte pieces", &["text", "--piece=1"], b"abc", 0, b"abc"),
+        ("empty", &["text"], b"", 0, b""),
+        ("UTF-16BE alone", &["text"], b"\xFE\xFF", 0, b"\xFE\xFF"),
+        (
+            "no sniffing",
+            &["text", "--no-bom-sniffing"],
+            b"\xFF\xFEa\0",
+            0,
+            b"\xFF\xFEa\0",
+        ),
+        (
+            "no sniffing, stripped",
+            &["text", "--no-bom-sniffing", "--strip-bom"],
+            b"\xFF\xFEa\0",
+            0,
+            b"a\0",
+        ),
+        (
+            "an overridden encoding",
+            &["text", "--encoding", "utf-8", "--bom-override"],
+            b"\xFF\xFEa\0",
+            0,
+            b"a",
+        ),
+    ];
+    for (name, words, input, code, text) in rows {
+        for step in [1, 7] {
+            let end = run_once(alloc, words, Vec::from_slice(alloc, input)?, step, 0, 0)?;
+            assert_eq!(rt; end.status.code(), code, "{name}");
+            if code == 0 {
+                assert_eq!(rt; end.written.as_slice(), text, "{name}");
+            }
+        }
+    }
+    Ok(())
+}
+
+// One line on each refusal, and none where all was written.
+#[test]
+fn notes(rt: HostRuntime) -> Result<(), Fail> {
+    let alloc = rt.alloc();
+    let rows: [(&[&str], &[u8], u64, u64, &str); 10] = [
+        (&["unwrap"], b"a", 0, 0, ""),
+        (
+            &["unwrap"],
+            b"\xFF\xFE",
+            0,
+            0,
+            "unwrap: the header cannot be shown\n",
+        ),
+        (&["x"], b"", 0, 0, "unwrap: the words are not understood\n"),
+        (&["unwrap"], b"a", 1, 0, "unwrap: reading failed\n"),
+        (
+            &["unwrap", "--limit=3"],
+            b"abcd",
+            0,
+            0,
+            "unwrap: the input is too long\n",
+        ),
+        (&["unwrap"], b"a", 0, 1, "unwrap: writing failed\n"),
+        (&["qp-decode", "--strict"], b"=", 0, 0, ""),
+        (
+            &["qp-decode", "--strict"],
+            b"=4",
+            0,
+            0,
+            "unwrap: the quoted-printable text is wrong\n",
+        ),
+        (
+            &["text", "--encoding=gbk"],
+            b"",
+            0,
+            0,
+            "unwrap: the encoding has no index\n",
+        ),
+        (&["make", "3"], b"", 0, 0, "unwrap: not built yet\n"),
+    ];
+    for (words, input, read, write, note) in rows {
+        let words = words_of(alloc, words)?;
+        let mut shelf = MemoryShelf::new(Vec::new(alloc), Vec::new(alloc));
+        let input = Vec::from_slice(alloc, input)?;
+        let source = MemorySource::new(input, 1, vec![in alloc; read]?);
+        let mut out = MemorySink::new(vec![in alloc; 0u8; 16]?, 1, vec![in alloc; write]?);
+        let mut notes = MemorySink::new(vec![in alloc; 0u8; 64]?, 5, Vec::new(alloc));
+        let _ = run(alloc, &words, &mut shelf, source, &mut out, &mut notes);
+        assert_eq!(rt; notes.taken(), note.as_bytes());
     }
     Ok(())
 }

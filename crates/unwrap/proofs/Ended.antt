@@ -1,0 +1,76 @@
+-- How commands end that neither read nor write.
+use Rattle.std.proofs.Common.{◌≡◌, ◌≢◌, ◌⊎◌, ◌≤◌, ℕ, Bool, true, false, List, [], length, Option, Some, None, IfSome, Result, Ok, Err, IsOk, refl, sym, subst, ap, ◌∙◌, inl, inr, arith}
+use Rattle.std.proofs.KnownBytes.{Consumes-nil}
+use Rattle.words.specs.declared.strategy.RecoverStrategy.{RecoverStrategy}
+use Rattle.unwrap.specs.declared.status.Status.{Status}
+use Rattle.unwrap.specs.declared.status.Status.TheVariants.{Done, ReadFault, TooMuch, WriteFault, Memory, Unbuilt}
+use Rattle.unwrap.specs.Asked.{Asked, Quoted, Stream, Unwrap, StreamText, QpEncode, QpDecode, Make}
+use Rattle.unwrap.specs.Commands.{OnOther, OnQuoted, OnText, OnUnwrap}
+use Rattle.unwrap.specs.Delivers.{Answer, Delivers, TellsFaultOf}
+
+-- what was asked for
+pub on_unwrap : (o p : Option Asked) (P : Stream → RecoverStrategy → Type 0) → o ≡ p → OnUnwrap p P → OnUnwrap o P
+on_unwrap o p P same h = subst (λ (x : Option Asked). OnUnwrap x P) (sym same) h
+
+pub on_other : (o p : Option Asked) (P Q : Type 0) → o ≡ p → (P → Q) → OnOther p P → OnOther o Q
+on_other o p P Q same more h = subst (λ (x : Option Asked). OnOther x Q) (sym same) (weaker p h)
+  where
+    weaker : (x : Option Asked) → OnOther x P → OnOther x Q
+    weaker None h = tt
+    weaker (Some (Unwrap stream strategy)) h = tt
+    weaker (Some (StreamText stream)) h = tt
+    weaker (Some (QpEncode options)) h = tt
+    weaker (Some (QpDecode options)) h = tt
+    weaker (Some (Make parts)) h = more h
+
+pub every_unwrap : (o : Option Asked) (P : Stream → RecoverStrategy → Type 0) → ((stream : Stream) (strategy : RecoverStrategy) → P stream strategy) → OnUnwrap o P
+every_unwrap None P h = tt
+every_unwrap (Some (Unwrap stream strategy)) P h = h stream strategy
+every_unwrap (Some (StreamText stream)) P h = tt
+every_unwrap (Some (QpEncode options)) P h = tt
+every_unwrap (Some (QpDecode options)) P h = tt
+every_unwrap (Some (Make parts)) P h = tt
+
+pub on_quoted : (o p : Option Asked) (P : Bool → Quoted → Type 0) → o ≡ p → OnQuoted p P → OnQuoted o P
+on_quoted o p P same h = subst (λ (x : Option Asked). OnQuoted x P) (sym same) h
+
+pub on_text : (o p : Option Asked) (P : Stream → Type 0) → o ≡ p → OnText p P → OnText o P
+on_text o p P same h = subst (λ (x : Option Asked). OnText x P) (sym same) h
+
+pub every_quoted : (o : Option Asked) (P : Bool → Quoted → Type 0) → ((encodes : Bool) (options : Quoted) → P encodes options) → OnQuoted o P
+every_quoted None P h = tt
+every_quoted (Some (Unwrap stream strategy)) P h = tt
+every_quoted (Some (StreamText stream)) P h = tt
+every_quoted (Some (QpEncode options)) P h = h true options
+every_quoted (Some (QpDecode options)) P h = h false options
+every_quoted (Some (Make parts)) P h = tt
+
+pub every_other : (o : Option Asked) (P : Type 0) → P → OnOther o P
+every_other None P h = tt
+every_other (Some (Unwrap stream strategy)) P h = tt
+every_other (Some (StreamText stream)) P h = tt
+every_other (Some (QpEncode options)) P h = tt
+every_other (Some (QpDecode options)) P h = tt
+every_other (Some (Make parts)) P h = h
+
+-- nothing was read and written, for want of memory
+pub delivers_memory : (value : List ℕ → Answer) (most : ℕ) (left taken : Option (List ℕ)) → Delivers value most left left taken taken Memory
+delivers_memory value most left taken = record {
+  headline = λ e. cc;
+  drained = λ h. absurd h;
+  limit = λ h. absurd h;
+  fault = told left;
+  some_fault = tt;
+  too_much = λ e. cc;
+  given = λ _. ([], Consumes-nil left, omega arith);
+  prefix = λ e. cc;
+  complete = ends left;
+}
+  where
+    told : (o : Option (List ℕ)) → IfSome o (λ s. TellsFaultOf (value s) Memory)
+    told None = tt
+    told (Some s) = tt
+
+    ends : (o : Option (List ℕ)) → IfSome o (λ s. length s ≤ most → IsOk (value s) → Memory ≢ ReadFault → Memory ≢ WriteFault → (Memory ≡ Done) ⊎ (Memory ≡ Memory))
+    ends None = tt
+    ends (Some s) = λ _ _ _ _. inr refl

@@ -1,0 +1,6 @@
+//! Where bytes go, and where files come from.
+
+pub mod memory;
+pub mod shelf;
+pub mod sink;
+pub mod stream;

@@ -1,0 +1,158 @@
+//! The text of a stream.
+ghost use Rattle.std.specs.Prelude.{◌≡◌, ◌≢◌, ◌<◌, length, Err};
+ghost use Rattle.enc_front.specs.Indexes.{indexes_of};
+ghost use Rattle.enc_io.specs.BuilderView.{options_of};
+ghost use Rattle.enc_io.specs.Faults.{Rose};
+ghost use Rattle.enc_io.specs.Options.{unknown_encoding};
+ghost use Rattle.enc_io.specs.ReaderView.{standing_of};
+ghost use Rattle.enc_io.specs.Text.{stream_text};
+ghost use Rattle.unwrap.specs.Copies.{Copies};
+ghost use Rattle.unwrap.specs.Status.{Counts, HasTextSoFar};
+ghost use Rattle.unwrap.specs.Streams.{EndsCopy, Streams, copy_status, reader_of};
+
+use crate::command_line::options::{ReaderOptions, StreamOptions};
+use crate::devices::sink::Sink;
+use crate::moving::{write_all, zeroes};
+use crate::status::{Finish, Status};
+use enc_front::Tables;
+use enc_io::{DecodeReaderBytes, DecodeReaderBytesBuilder, Failed, ReadError, Source};
+use std::alloc::Global;
+
+/// Why a copy of a stream's text ended before its end.
+#[derive(Clone, Copy, Debug, PartialEq, Eq)]
+pub enum CopyFault {
+    /// The source failed. The sink has all that the reader handed out, and the reader may be read on.
+    ReadFault,
+    /// The source gave more bytes than the reader's limit. The sink has all that the reader handed out.
+    TooMuch,
+    /// The sink failed. It has a prefix of what the reader handed out.
+    WriteFault,
+}
+
+/// Writes all that a reader has still to give, piece by piece, and answers how many bytes these are, or
+/// `u64::MAX` where they are more. `piece` isn't empty. It takes no memory.
+///
+/// # Errors
+///
+/// `ReadFault`, `TooMuch` or `WriteFault`, whichever is met first.
+pub fn copy_text<S: Source, K: Sink>(
+    reader: &mut DecodeReaderBytes<'_, S>,
+    piece: &mut [u8],
+    out: &mut K,
+) -> Result<u64, CopyFault>
+    requires { 0 < length piece.old }
+    ensures copies { Copies (standing_of reader.old) (standing_of reader.new) (K.taken out.old)
+        (K.taken out.new) (length piece.old) result }
+    ensures counted { result ≢ Err CopyFault.WriteFault → K.faults out.new ≡ K.faults out.old }
+    ensures failed { result ≡ Err CopyFault.WriteFault → Rose (K.faults out.old) (K.faults out.new) }
+{
+    let mut count: u64 = 0;
+    loop {
+        let n = match reader.read(piece) {
+            Ok(0) => return Ok(count),
+            Ok(n) => n,
+            Err(ReadError::ReadFault) => return Err(CopyFault::ReadFault),
+            Err(ReadError::TooMuch) => return Err(CopyFault::TooMuch),
+        };
+        if let Err(Failed) = write_all(out, &piece[..n]) {
+            return Err(CopyFault::WriteFault);
+        }
+        count = count.saturating_add(n as u64);
+    }
+}
+
+/// A builder of readers with these options.
+pub(crate) fn builder_of(options: &ReaderOptions) -> DecodeReaderBytesBuilder
+    ensures { options_of result ≡ reader_of options.now }
+{
+    let mut builder = DecodeReaderBytesBuilder::new();
+    let _ = builder
+        .encoding(options.encoding)
+        .utf8_passthru(options.utf8_passthru)
+        .strip_bom(options.strip_bom)
+        .bom_override(options.bom_override)
+        .bom_sniffing(options.bom_sniffing)
+        .limit(options.limit as usize);
+    builder
+}
+
+// The status of a copy.
+fn copy_status(copied: Result<u64, CopyFault>) -> Status
+    ensures { result ≡ copy_status copied }
+{
+    match copied {
+        Ok(_) => Status::Done,
+        Err(CopyFault::ReadFault) => Status::ReadFault,
+        Err(CopyFault::TooMuch) => Status::TooMuch,
+        Err(CopyFault::WriteFault) => Status::WriteFault,
+    }
+}
+
+// Writes all text of a reader.
+fn write_all_text<S: Source, K: Sink>(
+    reader: DecodeReaderBytes<'_, S>,
+    piece: &mut [u8],
+    out: &mut K,
+) -> Finish<S>
+    requires { 0 < length piece.old }
+    ensures streams { EndsCopy (standing_of reader.entry) (S.left result.source)
+        (S.faults result.source) (K.taken out.old) (K.taken out.new) result.status }
+    ensures counts { Counts result.status (standing_of reader.entry).faults
+        (S.faults result.source) (K.faults out.old) (K.faults out.new) }
+    ensures kept { ¬ HasTextSoFar result.status → out.new ≡ out.old }
+{
+    let mut reader = reader;
+    let copied = copy_text(&mut reader, piece, out);
+    Finish {
+        status: copy_status(copied),
+        source: reader.into_inner(),
+    }
+}
+
+/// Writes the text of a stream as it reads.
+pub(crate) fn write_text<S: Source, K: Sink>(
+    alloc: Global,
+    tables: &Tables,
+    options: &StreamOptions<'_>,
+    source: S,
+    out: &mut K,
+) -> Finish<S>
+    ensures no_usage { result.status ≢ Status.Usage }
+    ensures streams { Streams
+        (unknown_encoding (reader_of options.now.reader) (indexes_of tables.now))
+        (stream_text (reader_of options.now.reader) (indexes_of tables.now))
+        options.now.reader.limit (S.left source) (S.left result.source)
+        (K.taken out.old) (K.taken out.new) result.status }
+    ensures counts { Counts result.status (S.faults source) (S.faults result.source)
+        (K.faults out.old) (K.faults out.new) }
+    ensures kept { ¬ HasTextSoFar result.status → out.new ≡ out.old }
+{
+    let buffer = match zeroes(alloc, options.buffer as usize) {
+        Ok(buffer) => buffer,
+        Err(_) => {
+            return Finish {
+                status: Status::Memory,
+                source,
+            };
+        }
+    };
+    let mut piece = match zeroes(alloc, options.piece as usize) {
+        Ok(piece) => piece,
+        Err(_) => {
+            return Finish {
+                status: Status::Memory,
+                source,
+            };
+        }
+    };
+    match builder_of(&options.reader).build_with_buffer(tables, source, buffer) {
+        Ok(reader) => write_all_text(reader, piece.as_mut_slice(), out),
+        Err(refused) => {
+            let (source, _, error) = refused;
+            Finish {
+                status: Status::from(error),
+                source,
+            }
+        }
+    }
+}
