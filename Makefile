@@ -19,7 +19,7 @@ run: build
 	@$(PROGRAM) $(ARGS)
 
 test:
-	rt ci
+	@.ci/run
 
 bench: build
 	bench/headers $(PROGRAM)
