@@ -1,3 +1,4 @@
 pub mod MaskLemmas
 pub mod RunLemmas
 pub mod UnitLemmas
+pub mod Utf8Lemmas

@@ -11,3 +11,4 @@ pub mod runs;
 pub mod simd_funcs;
 #[cfg(test)]
 mod tests;
+pub mod utf8;
