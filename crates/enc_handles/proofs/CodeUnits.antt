@@ -1,6 +1,9 @@
 -- The code units of a list of bytes, one at a time and from a place on.
-use Rattle.std.proofs.Common.{◌≡◌, ℕ, zero, suc, ◌+◌, ◌*◌, ◌-◌, ◌/◌, ◌<◌, ◌≤◌, Bool, true, false, cond, List, [], ◌∷◌, length, take, drop, get_or, refl, sym, ap, ◌∙◌, arith, length-take-le, get_or-take}
+use Rattle.std.proofs.Common.{◌≡◌, ℕ, zero, suc, ◌+◌, ◌*◌, ◌-◌, ◌/◌, ◌<◌, ◌≤◌, Bool, true, false, cond, List, [], ◌∷◌, map, length, take, drop, get_or, Fits, w8, refl, sym, ap, ap₂, ◌∙◌, arith, length-take-le, length-drop, take-take, get_or-take}
 use Rattle.std.proofs.lemmas.List.{drop-take, at_drop_more}
+use Rattle.std.proofs.lemmas.Simd.{chunk-fits}
+use lib.Lanes.{Each1}
+use Rattle.enc_strides.specs.Lanes.{swapped, units_of}
 use Rattle.enc_handles.specs.Utf16.{code_unit, code_units, is_surrogate, bmp_len}
 
 pub code_units-len : (big : Bool) (bytes : List ℕ) (n : ℕ) → 2 * n ≤ length bytes → n ≤ length (code_units big bytes)
@@ -68,3 +71,49 @@ twice_length-code_units big (a ∷ b ∷ bytes) = let rest = twice_length-code_u
 
 pub length-code_units : (big : Bool) (bytes : List ℕ) → length (code_units big bytes) ≡ length bytes / 2
 length-code_units big bytes = let h = twice_length-code_units big bytes in omega (arith, h.0, h.1)
+
+-- bytes in twos, the low one first, are code units
+pub units_of-code_units : (bytes : List ℕ) → units_of bytes ≡ code_units false bytes
+units_of-code_units [] = refl
+units_of-code_units (a ∷ []) = refl
+units_of-code_units (a ∷ b ∷ bytes) = ap₂ (λ u us. u ∷ us) (omega arith) (units_of-code_units bytes)
+
+pub take-code_units : (big : Bool) (bytes : List ℕ) (n : ℕ) → 2 * n ≤ length bytes → code_units big (take (2 * n) bytes) ≡ take n (code_units big bytes)
+take-code_units big bytes zero h = refl
+take-code_units big [] (suc n) h = absurd (omega arith)
+take-code_units big (a ∷ []) (suc n) h = absurd (omega arith)
+take-code_units big (a ∷ b ∷ bytes) (suc n) h =
+    let twice : 2 * suc n ≡ suc (suc (2 * n)) = omega arith in
+    rw twice (ap (λ us. code_unit big a b ∷ us) (take-code_units big bytes n (omega arith)))
+
+-- eight of them
+pub block-is : (bytes us : List ℕ) (n i k : ℕ) → 2 * n ≤ length bytes → i + 8 ≤ n → 16 ≤ k → us ≡ units_of (take 16 (take k (drop (2 * i) bytes)))
+    → us ≡ take 8 (drop i (take n (code_units false bytes)))
+block-is bytes us n i k h below long e =
+    let behind = drop (2 * i) bytes in
+    let room : 2 * 8 ≤ length behind = omega (arith, length-drop (2 * i) bytes) in
+    e ∙ (ap (λ (l : List ℕ). units_of l) (take-take 16 k behind long) ∙ (units_of-code_units (take 16 behind) ∙ (take-code_units false behind 8 room
+    ∙ (sym (take-take 8 (n - i) (code_units false behind) (omega arith)) ∙ ap (take 8) (drop-window false bytes n i h (omega arith))))))
+
+swap-is : (a b : ℕ) → a < 256 → b < 256 → swapped (code_unit false a b) ≡ code_unit true a b
+swap-is a b low high = omega arith
+
+-- with their bytes exchanged they are those in the other order
+pub swapped-code_units : (bytes : List ℕ) → Each1 (Fits w8) bytes → map swapped (code_units false bytes) ≡ code_units true bytes
+swapped-code_units [] fits = refl
+swapped-code_units (a ∷ []) fits = refl
+swapped-code_units (a ∷ b ∷ bytes) fits = ap₂ (λ u us. u ∷ us) (swap-is a b fits.0.fits fits.1.0.fits) (swapped-code_units bytes fits.1.1)
+
+pub block-swapped : (bytes us vs : List ℕ) (i : ℕ) → 2 * i + 16 ≤ length bytes → ((j : ℕ) → Fits w8 (get_or bytes j 0))
+    → us ≡ units_of (take 16 (drop (2 * i) bytes)) → vs ≡ map swapped us → vs ≡ take 8 (drop i (code_units true bytes))
+block-swapped bytes us vs i h fits e f =
+    let behind = drop (2 * i) bytes in
+    let room : 2 * 8 ≤ length behind = omega (arith, length-drop (2 * i) bytes) in
+    let whole : us ≡ code_units false (take 16 behind) = e ∙ units_of-code_units (take 16 behind) in
+    f ∙ (ap (map swapped) whole ∙ (swapped-code_units (take 16 behind) (chunk-fits w8 (2 * i) 16 bytes fits)
+    ∙ (take-code_units true behind 8 room ∙ ap (take 8) (sym (drop-code_units true bytes i (omega arith))))))
+
+pub block-within : (us vs : List ℕ) (n i : ℕ) → i + 8 ≤ n → vs ≡ take 8 (drop i us) → vs ≡ take 8 (drop i (take n us))
+block-within us vs n i within e =
+    let whole : i + (n - i) ≡ n = omega arith in
+    e ∙ (sym (take-take 8 (n - i) (drop i us) (omega arith)) ∙ ap (take 8) (sym (drop-take i (n - i) us) ∙ ap (λ k. drop i (take k us)) whole))

@@ -1,17 +1,18 @@
 -- A copy of code units, one scalar at a time.
-use Rattle.std.proofs.Common.{◌≡◌, ℕ, ◌+◌, ◌-◌, ◌*◌, ◌/◌, ◌<◌, ◌≤◌, Bool, true, false, cond, ltb, Some, None, length-take, List, [], ◌∷◌, ◌++◌, length, take, get_or, refl, sym, ap, ◌∙◌, arith, length-append, ◌&&◌, ◌⊎◌, ⊎_elim, inl, inr}
+use Rattle.std.proofs.Common.{◌≡◌, ℕ, ◌+◌, ◌-◌, ◌*◌, ◌/◌, ◌<◌, ◌≤◌, Bool, true, false, cond, ltb, Some, None, length-take, List, [], ◌∷◌, ◌++◌, length, length-drop, take, drop, get_or, refl, sym, ap, ◌∙◌, arith, length-append, ◌&&◌, ◌⊎◌, ⊎_elim, inl, inr}
 use Rattle.std.proofs.lemmas.Bool.{and_right}
 use Rattle.std.proofs.lemmas.Grind.{flat_map-append}
 use Rattle.std.proofs.lemmas.List.{append-nil, take-append-le, take_all}
 use Rattle.std.proofs.Math.Nat.{eq-or-lt_of_le}
 use Rattle.std.specs.Char.Escape.{encode_utf16}
-use Rattle.enc_handles.specs.Copies.{HasRoomBeforeEach, CopiesUnits, CopiesUtf16}
+use Rattle.enc_handles.specs.Copies.{HasRoomBeforeEach, CopiesUnits, CopiesUtf16, MovesScalars}
 use Rattle.enc_handles.specs.Reading.{Reading, after_reading}
-use Rattle.enc_handles.specs.Utf16.{is_lead, code_units, without_last_lead, utf16_window, TakesWhatFits, encode_utf16_all, HasScalarAt, BeginsNoPair, WindowFits}
+use Rattle.enc_handles.specs.Utf16.{is_lead, code_units, without_last_lead, utf16_window, TakesWhatFits, encode_utf16_all, BeginsNoPair, WindowFits}
 use Rattle.enc_handles.specs.Utf8.{AreScalars, text_of}
 use Rattle.enc_handles.specs.Writing.{Writing, after_writing}
 use Rattle.enc_handles.proofs.CodeUnits.{length-code_units}
-use Rattle.enc_handles.proofs.CopyUtf8.{are_scalars-push}
+use Rattle.enc_handles.proofs.BlockLemmas.{room_on}
+use Rattle.enc_handles.proofs.CopyUtf8.{are_scalars-join}
 use Rattle.enc_handles.proofs.LoopLemmas.{after_writing-append}
 use Rattle.enc_handles.proofs.Surrogates.{unpaired}
 
@@ -41,39 +42,28 @@ copied16_none form window needed w = record {
   enough = λ k below. absurd (omega (arith, below));
 }
 
-enough-push : (form : ℕ → List ℕ) (needed free : ℕ) (scalars : List ℕ) (c : ℕ)
-    → HasRoomBeforeEach form needed free scalars → length (text_of form scalars) + needed ≤ free
-    → HasRoomBeforeEach form needed free (scalars ++ c ∷ [])
-enough-push form needed free scalars c before last k below =
-    let within : k ≤ length scalars = omega (arith, below, length-append scalars (c ∷ [])) in
-    let same : take k (scalars ++ c ∷ []) ≡ take k scalars = take-append-le k scalars (c ∷ []) within in
-    rw same (⊎_elim
-    (λ (last_one : k ≡ length scalars). rw last_one (rw (take_all (length scalars) scalars (omega arith)) last))
-    (λ (earlier : k < length scalars). before k earlier) (eq-or-lt_of_le within))
-
-pub copied16_more : (form : ℕ → List ℕ) (window : List ℕ) (needed : ℕ) (w₀ w w' : Writing) (read : ℕ) (scalars : List ℕ) (c n : ℕ)
-    → Copied16 form window needed w₀ w read scalars → HasScalarAt window read c n
-    → w' ≡ after_writing w (form c) → length (form c) ≤ w.free → needed ≤ w.free
-    → Copied16 form window needed w₀ w' (read + n) (scalars ++ c ∷ [])
-copied16_more form window needed w₀ w w' read scalars c n so_far here written fits enough =
-    let units : encode_utf16_all (scalars ++ c ∷ []) ≡ encode_utf16_all scalars ++ encode_utf16 c =
-    flat_map-append encode_utf16 scalars (c ∷ []) ∙ ap (λ (l : List ℕ). encode_utf16_all scalars ++ l) (append-nil (encode_utf16 c)) in
-    let text : text_of form (scalars ++ c ∷ []) ≡ text_of form scalars ++ form c =
-    flat_map-append form scalars (c ∷ []) ∙ ap (λ (l : List ℕ). text_of form scalars ++ l) (append-nil (form c)) in
-    let longer : length (text_of form (scalars ++ c ∷ [])) ≡ length (text_of form scalars) + length (form c) =
-    ap length text ∙ length-append (text_of form scalars) (form c) in
-    let further : length (encode_utf16_all (scalars ++ c ∷ [])) ≡ length (encode_utf16_all scalars) + length (encode_utf16 c) =
-    ap length units ∙ length-append (encode_utf16_all scalars) (encode_utf16 c) in
-    let free : w'.free ≡ w.free - length (form c) = ap (λ (v : Writing). v.free) written in
+pub copied16_on : (form : ℕ → List ℕ) (window : List ℕ) (needed : ℕ) (w₀ w w' : Writing) (read next : ℕ) (scalars : List ℕ)
+    → Copied16 form window needed w₀ w read scalars → (moved : MovesScalars form needed window w w' read next)
+    → Copied16 form window needed w₀ w' next (scalars ++ moved.scalars)
+copied16_on form window needed w₀ w w' read next scalars so_far moved =
+    let more = moved.scalars in
+    let units : encode_utf16_all (scalars ++ more) ≡ encode_utf16_all scalars ++ encode_utf16_all more = flat_map-append encode_utf16 scalars more in
+    let text : text_of form (scalars ++ more) ≡ text_of form scalars ++ text_of form more = flat_map-append form scalars more in
+    let longer : length (text_of form (scalars ++ more)) ≡ length (text_of form scalars) + length (text_of form more) =
+    ap length text ∙ length-append (text_of form scalars) (text_of form more) in
+    let further : length (encode_utf16_all (scalars ++ more)) ≡ length (encode_utf16_all scalars) + length (encode_utf16_all more) =
+    ap length units ∙ length-append (encode_utf16_all scalars) (encode_utf16_all more) in
+    let free : w'.free ≡ w.free - length (text_of form more) = ap (λ (v : Writing). v.free) moved.written in
+    let left : w₀.free - length (text_of form scalars) ≡ w.free = omega (arith, so_far.room) in
     record {
-      each = are_scalars-push scalars c so_far.each here.is_scalar;
-      front = here.front ∙ (ap (λ (l : List ℕ). l ++ encode_utf16 c) so_far.front ∙ sym units);
-      count = omega (arith, so_far.count, here.count);
-      within = here.within;
-      before = and_right (ltb 0 (read + n)) (is_lead (get_or window (read + n - 1) 0)) here.end;
-      written = written ∙ (ap (λ v. after_writing v (form c)) so_far.written ∙ (after_writing-append w₀ (text_of form scalars) (form c) ∙ ap (after_writing w₀) (sym text)));
-      room = omega (arith, so_far.room);
-      enough = enough-push form needed w₀.free scalars c so_far.enough (omega (arith, so_far.room, enough));
+      each = are_scalars-join scalars more so_far.each moved.each;
+      front = moved.units ∙ (ap (λ (l : List ℕ). l ++ encode_utf16_all more) so_far.front ∙ sym units);
+      count = omega (arith, so_far.count, moved.count);
+      within = moved.within;
+      before = and_right (ltb 0 next) (is_lead (get_or window (next - 1) 0)) moved.end;
+      written = moved.written ∙ (ap (λ v. after_writing v (text_of form more)) so_far.written ∙ (after_writing-append w₀ (text_of form scalars) (text_of form more) ∙ ap (after_writing w₀) (sym text)));
+      room = omega (arith, so_far.room, moved.fits);
+      enough = room_on form needed w₀.free scalars more so_far.enough (omega (arith, so_far.room)) (rw left moved.room);
     }
 
 same_length : (form : ℕ → List ℕ) → ((c : ℕ) → length (form c) ≡ length (encode_utf16 c)) → (cs : List ℕ) → length (text_of form cs) ≡ length (encode_utf16_all cs)
@@ -81,13 +71,12 @@ same_length form same [] = refl
 same_length form same (c ∷ cs) =
     omega (arith, same_length form same cs, same c, length-append (form c) (text_of form cs), length-append (encode_utf16 c) (encode_utf16_all cs))
 
--- the next scalar has room
-pub next_fits : (form : ℕ → List ℕ) (window : List ℕ) (needed : ℕ) (w₀ w : Writing) (read : ℕ) (scalars : List ℕ) (c n : ℕ)
-    → WindowFits form needed window w₀.free → Copied16 form window needed w₀ w read scalars → HasScalarAt window read c n → needed ≤ w.free
-    → length (form c) ≤ w.free
-next_fits form window needed w₀ w read scalars c n (inl any) so_far here enough = let fit = any c here.is_scalar in omega arith
-next_fits form window needed w₀ w read scalars c n (inr same) so_far here enough =
-    omega (arith, same_length form same.0 scalars, same.0 c, same.1, so_far.room, so_far.count, here.count, here.within)
+-- what is left of the window fits what is left of the room
+pub rest_fits : (form : ℕ → List ℕ) (window : List ℕ) (needed : ℕ) (w₀ w : Writing) (read : ℕ) (scalars : List ℕ)
+    → WindowFits form needed window w₀.free → Copied16 form window needed w₀ w read scalars → WindowFits form needed (drop read window) w.free
+rest_fits form window needed w₀ w read scalars (inl any) so_far = inl any
+rest_fits form window needed w₀ w read scalars (inr same) so_far =
+    inr (same.0, omega (arith, same_length form same.0 scalars, same.1, so_far.room, so_far.count, length-drop read window))
 
 -- the three ends
 pub ends_window : (form : ℕ → List ℕ) (window : List ℕ) (needed : ℕ) (w₀ w : Writing) (read : ℕ) (scalars : List ℕ) → Copied16 form window needed w₀ w read scalars

@@ -29,6 +29,10 @@ copied_none form r w = record {
   room = omega arith;
 }
 
+pub are_scalars-join : (xs ys : List ℕ) → AreScalars xs → AreScalars ys → AreScalars (xs ++ ys)
+are_scalars-join [] ys first more = more
+are_scalars-join (x ∷ xs) ys first more = let parts = and_parts _ _ first in and_from _ _ parts.0 (are_scalars-join xs ys parts.1 more)
+
 pub are_scalars-push : (cs : List ℕ) (c : ℕ) → AreScalars cs → IsScalar c → AreScalars (cs ++ c ∷ [])
 are_scalars-push [] c h s = and_from _ _ s refl
 are_scalars-push (x ∷ xs) c h s = let parts = and_parts _ _ h in and_from _ _ parts.0 (are_scalars-push xs c parts.1 s)

@@ -1,4 +1,5 @@
 pub mod AsciiLemmas
+pub mod BlockLemmas
 pub mod CodeUnits
 pub mod CopyParts
 pub mod CopyUtf16

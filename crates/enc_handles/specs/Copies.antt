@@ -1,7 +1,9 @@
 -- What the bulk copies move.
-use Rattle.std.specs.Prelude.{◌≡◌, ℕ, ◌+◌, ◌-◌, ◌++◌, ◌*◌, ◌<◌, ◌≤◌, ◌⊎◌, Bool, true, MatchBool, List, length, take, Option, MatchOption, encode_utf8_all}
+use Rattle.std.specs.Prelude.{◌≡◌, ℕ, ◌+◌, ◌-◌, ◌++◌, ◌*◌, ◌<◌, ◌≤◌, ◌⊎◌, Bool, true, false, MatchBool, List, length, slice_index, take, drop, Option, MatchOption, encode_utf8_all}
+use Rattle.std.specs.Char.{IsScalar}
+use Rattle.std.specs.Simd.Lanes.{Each1}
 use Rattle.enc_handles.specs.Reading.{Reading, left, after_reading}
-use Rattle.enc_handles.specs.Utf16.{encode_utf16_all, is_unpaired_at}
+use Rattle.enc_handles.specs.Utf16.{encode_utf16_all, is_lead, is_unpaired_at}
 use Rattle.enc_handles.specs.Utf8.{AreScalars, text_of, IsFittingFront, IsLongestFront}
 use Rattle.enc_handles.specs.UnitSlice.{Puts}
 use Rattle.enc_handles.specs.Writing.{Writing, after_writing}
@@ -72,3 +74,33 @@ pub record CopiesUnits (form : ℕ → List ℕ) (window : List ℕ) (needed : �
   pub stopped : MatchBool unpaired
       ((read ≡ length (encode_utf16_all scalars) + 1) × ((is_unpaired_at window (length (encode_utf16_all scalars)) ≡ true) × (needed ≤ after.free)))
       ((read ≡ length (encode_utf16_all scalars)) × ((read ≡ length window) ⊎ (after.free < needed)))
+
+-- these units, which are scalars, were written behind place `at`: `end` is the place behind their text, and before each
+-- of them the needed room was left
+pub record MovesUnits (form : ℕ → List ℕ) (needed : ℕ) (units old new : List ℕ) (at end : ℕ) : Type 0 where
+  pub each : Each1 (λ u. IsScalar u × (u < 0x1_0000)) units
+  pub place : end ≡ at + length (text_of form units)
+  pub text : Puts old new at (text_of form units)
+  pub room : HasRoomBeforeEach form needed (length old - at) units
+  pub fits : end ≤ length old
+
+-- the same of some units of a window from place `from` on: how many they are, and the place behind their text
+pub record MovesFrom (form : ℕ → List ℕ) (needed : ℕ) (window old new : List ℕ) (at from : ℕ) (moved : ℕ × ℕ) : Type 0 where
+  pub units : List ℕ
+  pub here : units ≡ take moved.0 (drop from window)
+  pub within : from + moved.0 ≤ length window
+  pub moves : MovesUnits form needed units old new at moved.1
+
+-- the units from place `read` to `next` of the window are those of scalars, at least one, each of which found the needed room,
+-- and their text was written
+pub record MovesScalars (form : ℕ → List ℕ) (needed : ℕ) (window : List ℕ) (before after : Writing) (read next : ℕ) : Type 0 where
+  pub scalars : List ℕ
+  pub each : AreScalars scalars
+  pub units : take next window ≡ take read window ++ encode_utf16_all scalars
+  pub count : next ≡ read + length (encode_utf16_all scalars)
+  pub some : read < next
+  pub within : next ≤ length window
+  pub end : is_lead (slice_index window (next - 1)) ≡ false
+  pub written : after ≡ after_writing before (text_of form scalars)
+  pub fits : length (text_of form scalars) ≤ before.free
+  pub room : HasRoomBeforeEach form needed before.free scalars

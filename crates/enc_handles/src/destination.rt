@@ -1,11 +1,11 @@
 //! Destinations for text, in UTF-8 and in UTF-16.
-ghost use Rattle.std.specs.Prelude.{◌≡◌, ◌+◌, ◌-◌, ◌<◌, ◌≤◌, ◌↔◌, [], ◌∷◌, length, List, ℕ, IsTrue, encode_utf8, slice_index, IsOk, IfOk, IfErr, OnOk, OnErr};
+ghost use Rattle.std.specs.Prelude.{◌≡◌, ◌+◌, ◌-◌, ◌<◌, ◌≤◌, ◌↔◌, [], ◌∷◌, length, List, ℕ, IsTrue, encode_utf8, slice_index, drop, IsOk, IfOk, IfErr, IfSome, IfNone, OnOk, OnErr};
 ghost use Rattle.enc_handles.specs.Ascii.{ascii_len, moved_len, moved_text, stop_result, GoesOn};
-ghost use Rattle.enc_handles.specs.Copies.{Copied, CopiesUtf8, CopiesUnits, CopiesUtf16};
+ghost use Rattle.enc_handles.specs.Copies.{Copied, CopiesUtf8, CopiesUnits, CopiesUtf16, MovesScalars};
 ghost use Rattle.enc_handles.specs.Unaligned.{units_in};
 ghost use Rattle.enc_handles.specs.Reading.{left, after_reading};
 ghost use Rattle.enc_handles.specs.ByteSource.{reading};
-ghost use Rattle.enc_handles.specs.Utf16.{is_lead, is_trail, pair_scalar, code_units, utf16_window, WindowFits, TakesWhatFits};
+ghost use Rattle.enc_handles.specs.Utf16.{is_lead, is_trail, pair_scalar, code_units, utf16_window, WindowFits, TakesWhatFits, BeginsNoPair};
 ghost use Rattle.std.specs.Borrow.{sem};
 ghost use Rattle.std.specs.Char.{IsScalar};
 ghost use Rattle.enc_handles.specs.Writing.{Writing, after_writing};
@@ -221,6 +221,28 @@ impl<S: UnitSlice> DestinationOver<S> {
         }
     }
 
+    // Writes the text of the units at `read` and behind it, of many or of one scalar, and answers the place of the next
+    // unit, or `None` where an unpaired surrogate stands there.
+    fn move_units<E: Endian>(&mut self, units: &UnalignedU16Slice, read: usize) -> Option<usize>
+        requires some { read < length (units_in E.OPPOSITE_ENDIAN units.now) }
+        requires room { S.utf16_room ≤ (writing self.old).free }
+        requires fits { WindowFits S.encode S.utf16_room (drop read (units_in E.OPPOSITE_ENDIAN units.now)) (writing self.old).free }
+        ensures moved { IfSome result (λ next. MovesScalars S.encode S.utf16_room (units_in E.OPPOSITE_ENDIAN units.now) (writing self.old) (writing self.new) read next) }
+        ensures unpaired { IfNone result (BeginsNoPair (units_in E.OPPOSITE_ENDIAN units.now) read) }
+        ensures stays { IfNone result (writing self.new ≡ writing self.old) }
+    {
+        let (count, end) = self.slice.copy_units_at::<E>(self.pos, units, read);
+        if count > 0 {
+            self.pos = end;
+            return Some(read + count);
+        }
+        let Some((scalar, count)) = scalar_at::<E>(units, read) else {
+            return None;
+        };
+        self.put_scalar(scalar);
+        Some(read + count)
+    }
+
     // Writes the text of code units, and answers how many it read and whether an unpaired surrogate was the last.
     fn copy_units<E: Endian>(&mut self, units: UnalignedU16Slice) -> (usize, bool)
         requires { WindowFits S.encode S.utf16_room (units_in E.OPPOSITE_ENDIAN units) (writing self.old).free }
@@ -230,11 +252,10 @@ impl<S: UnitSlice> DestinationOver<S> {
         let len = units.len();
         let mut read = 0;
         while read < len && needed <= self.slice.unit_count() - self.pos {
-            let Some((scalar, count)) = scalar_at::<E>(&units, read) else {
+            let Some(next) = self.move_units::<E>(&units, read) else {
                 return (read + 1, true);
             };
-            self.put_scalar(scalar);
-            read += count;
+            read = next;
         }
         (read, false)
     }

@@ -1,6 +1,7 @@
 //! Sources, destinations and room handles.
 #![tactic(auto)]
 
+mod blocks;
 pub mod byte_slice;
 pub mod byte_source;
 pub mod destination;

@@ -410,3 +410,108 @@ fn unaligned_units(rt: HostRuntime) {
     assert_eq!(rt; units.copy_bmp_to::<BigEndian>(&mut other), None);
     assert_eq!(rt; &other[..2], [0x6100, 0x3DD8].as_slice());
 }
+
+#[test]
+fn a_copy_of_ascii_stores_a_stride_before_it_tests(rt: HostRuntime) {
+    let mut bytes = [b'a'; 16];
+    bytes[3] = 0x80;
+    let mut room = [0u8; 16];
+    let mut dest = Utf8Destination::new(&mut room);
+    let mut source = ByteSource::new(&bytes);
+    assert_eq!(rt;
+        stopped(dest.copy_ascii_from_check_space_bmp(&mut source)),
+        None
+    );
+    assert_eq!(rt; source.consumed(), 4);
+    assert_eq!(rt; room[5], b'a');
+}
+
+// How many bytes of ASCII a copy moves, one byte at a time.
+fn plain_ascii(src: &[u8], room: usize) -> usize {
+    for (i, byte) in src.iter().enumerate() {
+        if i == room || *byte >= 0x80 {
+            return i;
+        }
+    }
+    src.len()
+}
+
+// How many bytes of whole sequences a copy moves, by one look at all that fits.
+fn plain_utf8(src: &[u8], room: usize) -> usize {
+    let len = src.len().min(room);
+    match std::str::from_utf8(&src[..len]) {
+        Ok(_) => len,
+        Err(error) => error.valid_up_to(),
+    }
+}
+
+// Texts of ASCII, of each length of sequence, and malformed ones: a byte past the table, a tail alone, a surrogate, a cut
+// sequence, each before, in and behind strides.
+fn texts() -> [&'static [u8]; 12] {
+    [
+        b"",
+        b"plain",
+        b"sixteen letters.",
+        b"thirty-two letters of ASCII here, and then some of the next stride, up to here",
+        "aaaaaaaaaaaaaaaaaaaaaaaaaaaaaaa\u{E4}aaaaaaaaaaaaaaaaaaaaaaaaaaaaaaaaaaaaa".as_bytes(),
+        "\u{434}\u{43E}\u{431}\u{440}\u{44B}\u{439} \u{434}\u{435}\u{43D}\u{44C}, \u{43C}\u{438}\u{440}".as_bytes(),
+        "\u{AC00}\u{AC01}a\u{AC02}\u{1F600}\u{1F601}b\u{20AC}".as_bytes(),
+        b"aaaaaaaaaaaaaaaa\xFFaaaaaaaaaaaaaaaaaaaaaaaaaaaaaaaaaaaa",
+        b"aaaaaaaaaaaaaaaaaaaaaaaaaaaaaaaaa\x80aaaaaaaaaaa",
+        b"\xC3\xA4\xC3\xA4\xC3\xA4\xED\xA0\x80\xC3\xA4",
+        b"\xF0\x9F\x98\x80\xF0\x9F\x98\x80\xF0\x9F\x98",
+        b"\xFF\xFFa\xFFa",
+    ]
+}
+
+#[test]
+fn fast_copies_move_what_plain_ones_do(rt: HostRuntime) {
+    for text in texts() {
+        for cut in 0..81 {
+            let src = &text[..text.len().min(cut)];
+            for room in 0..81 {
+                let mut bytes = [0u8; 80];
+                let mut units = [0u16; 80];
+                let ascii = plain_ascii(src, room);
+                let mut narrow = &mut bytes[..room];
+                assert_eq!(rt; narrow.copy_ascii_at(0, src), ascii);
+                let mut wide = &mut units[..room];
+                assert_eq!(rt; wide.copy_ascii_at(0, src), ascii);
+                let whole = plain_utf8(src, room);
+                assert_eq!(rt; copied_utf8(src, &mut bytes[..room]), (whole, whole));
+            }
+        }
+    }
+}
+
+#[test]
+fn eight_units_at_once(rt: HostRuntime) {
+    let bytes = [
+        0x61, 0, 0xE4, 0, 0x34, 0x04, 0x00, 0xAC, 0x3D, 0xD8, 0x00, 0xDE, 0x20, 0, 0x41, 0, 0x42, 0,
+    ];
+    let units = UnalignedU16Slice::new(&bytes, 9);
+    assert!(rt; units.len() >= 9);
+    let eight = units.simd_at(1).to_array();
+    assert_eq!(rt;
+        eight,
+        [0xE4, 0x434, 0xAC00, 0xD83D, 0xDE00, 0x20, 0x41, 0x42]
+    );
+}
+
+#[test]
+fn blocks_of_utf16_are_copied(rt: HostRuntime) {
+    let bytes = [
+        0x61, 0, 0xE4, 0, 0x34, 0x04, 0x00, 0xAC, 0x20, 0, 0x41, 0, 0x42, 0, 0x43, 0,
+    ];
+    let text = [
+        0x61, 0xC3, 0xA4, 0xD0, 0xB4, 0xEA, 0xB0, 0x80, 0x20, 0x41, 0x42, 0x43,
+    ];
+    let mut buffer = [0u8; 28];
+    assert_eq!(rt;
+        copied_utf16::<LittleEndian>(&bytes, &mut buffer),
+        (None, 16, 12)
+    );
+    for (byte, wanted) in buffer.iter().zip(&text) {
+        assert_eq!(rt; byte, wanted);
+    }
+}

@@ -1,9 +1,12 @@
 //! Code units that lie in bytes at any place.
-ghost use Rattle.std.specs.Prelude.{◌≡◌, ◌+◌, ◌-◌, ◌*◌, ◌<◌, ◌≤◌, ◌↔◌, length, take, drop, slice_index, false, Bool, IsSome, IfSome};
+ghost use Rattle.std.specs.Prelude.{◌≡◌, ◌+◌, ◌-◌, ◌*◌, ◌<◌, ◌≤◌, ◌↔◌, length, take, drop, slice_index, false, true, Bool, IsSome, IfSome};
 ghost use Rattle.enc_handles.specs.Utf16.{code_units, bmp_len};
 
+use crate::blocks::move_utf16;
 use crate::endian::Endian;
 use crate::utf16::is_surrogate;
+use enc_strides::simd_funcs::{simd_byte_swap, to_u16_lanes};
+use std::simd::prelude::*;
 
 /// So many 16-bit code units in the bytes of a slice, which may begin at any place.
 #[derive(Clone, Copy)]
@@ -59,6 +62,26 @@ impl<'a> UnalignedU16Slice<'a> {
         }
     }
 
+    /// The eight code units from `i` on, in the machine's order, the less significant byte first.
+    pub fn simd_at(&self, i: usize) -> u16x8
+        requires { i + 8 ≤ length (units_in false self.now) }
+        ensures { result ≡ take 8 (drop i (units_in false self.now)) }
+    {
+        to_u16_lanes(u8x16::from_slice(&self.bytes[2 * i..]))
+    }
+
+    // The eight code units from `i` on in the order of `E`.
+    #[inline(always)]
+    pub(crate) fn block<E: Endian>(&self, i: usize) -> u16x8
+        requires { i + 8 ≤ length (units_in E.OPPOSITE_ENDIAN self.now) }
+        ensures { result ≡ take 8 (drop i (units_in E.OPPOSITE_ENDIAN self.now)) }
+    {
+        if E::OPPOSITE_ENDIAN {
+            return big_block(self.bytes, i);
+        }
+        self.simd_at(i)
+    }
+
     // The code unit at `i` in the order of `E`.
     pub(crate) fn unit<E: Endian>(&self, i: usize) -> u16
         requires { i < length (units_in E.OPPOSITE_ENDIAN self.now) }
@@ -71,6 +94,19 @@ impl<'a> UnalignedU16Slice<'a> {
         } else {
             second * 0x100 + first
         }
+    }
+
+    // Copies blocks as long as no surrogate stands in one, and answers how many units they have.
+    fn copy_blocks_to<E: Endian>(&self, other: &mut [u16]) -> usize
+        requires { length (units_in E.OPPOSITE_ENDIAN self.now) ≡ length other.old }
+        ensures within { result ≤ length (units_in E.OPPOSITE_ENDIAN self.now) }
+        ensures before { result + bmp_len (drop result (units_in E.OPPOSITE_ENDIAN self.now))
+            ≡ bmp_len (units_in E.OPPOSITE_ENDIAN self.now) }
+        ensures copied { take result other.new ≡ take result (units_in E.OPPOSITE_ENDIAN self.now) }
+        ensures len { length other.new ≡ length other.old }
+    {
+        let (moved, _) = move_utf16::<E>(self, 0, other, 0);
+        moved
     }
 
     /// Copies up to the first surrogate and answers it with its place, or `None` where there is none. What
@@ -88,7 +124,8 @@ impl<'a> UnalignedU16Slice<'a> {
             ≡ drop (length (units_in E.OPPOSITE_ENDIAN self.now)) other.old }
     {
         let count = self.len();
-        for i in 0..count {
+        let moved = self.copy_blocks_to::<E>(&mut other[..count]);
+        for i in moved..count {
             let unit = self.unit::<E>(i);
             if is_surrogate(unit) {
                 return Some((unit, i));
@@ -97,4 +134,13 @@ impl<'a> UnalignedU16Slice<'a> {
         }
         None
     }
+}
+
+// The eight code units from `i` on, the more significant byte first.
+#[inline(always)]
+fn big_block(bytes: &[u8], i: usize) -> u16x8
+    requires { 2 * i + 16 ≤ length bytes.now }
+    ensures { result ≡ take 8 (drop i (code_units true bytes.now)) }
+{
+    simd_byte_swap(to_u16_lanes(u8x16::from_slice(&bytes[2 * i..])))
 }

@@ -5,10 +5,14 @@ ghost use Rattle.std.specs.Char.{IsScalar};
 ghost use Rattle.std.specs.Char.Escape.{encode_utf16};
 ghost use Rattle.enc_handles.specs.Ascii.{moved_len};
 ghost use Rattle.enc_handles.specs.Utf16.{TakesWhatFits};
-ghost use Rattle.enc_handles.specs.Copies.{MovesFront};
+ghost use Rattle.enc_handles.specs.Copies.{MovesFront, MovesFrom};
+ghost use Rattle.enc_handles.specs.Unaligned.{units_in};
 ghost use Rattle.enc_handles.specs.UnitSlice.{Puts};
 ghost use Rattle.enc_handles.specs.Rooms.{takes_what_fits_utf8, takes_what_fits_utf16, ascii_text_utf8, ascii_text_utf16, bmp_fits_utf8, astral_fits_utf8, two_fit_utf8, bmp_fits_utf16, astral_fits_utf16, two_fit_utf16};
 
+use crate::blocks::{move_utf8, move_utf16};
+use crate::endian::Endian;
+use crate::unaligned::UnalignedU16Slice;
 use crate::utf8_parts::copy_utf8;
 use enc_strides::runs::{ascii_to_ascii, ascii_to_basic_latin};
 
@@ -92,6 +96,19 @@ pub trait UnitSlice: Drop {
     fn copy_utf8_at(&mut self, at: usize, src: &[u8]) -> (usize, usize)
         requires { at ≤ length (units self.old) }
         ensures moved { MovesFront encode src.now (units self.old) (units self.new) at result }
+        ensures same_buffer { buffer self.new ≡ buffer self.old };
+
+    /// Moves code units of `source` from place `from` on, none of which is a surrogate, to `at` and behind it, as many as it
+    /// sees fit, and answers how many they are and the place behind their text. What stands there is left open.
+    fn copy_units_at<E: Endian>(
+        &mut self,
+        at: usize,
+        source: &UnalignedU16Slice,
+        from: usize,
+    ) -> (usize, usize)
+        requires at { at ≤ length (units self.old) }
+        requires from { from ≤ length (units_in E.OPPOSITE_ENDIAN source.now) }
+        ensures moved { MovesFrom encode utf16_room (units_in E.OPPOSITE_ENDIAN source.now) (units self.old) (units self.new) at from result }
         ensures same_buffer { buffer self.new ≡ buffer self.old };
 
     /// What a copy of UTF-16 takes fits.
@@ -237,6 +254,15 @@ impl<'a> UnitSlice for &'a mut [u8] {
         (len, at + len)
     }
 
+    fn copy_units_at<E: Endian>(
+        &mut self,
+        at: usize,
+        source: &UnalignedU16Slice,
+        from: usize,
+    ) -> (usize, usize) {
+        move_utf8::<E>(source, from, self, at)
+    }
+
     ghost utf16_room = { 4 };
 
     ghost utf16_taken = { λ room count. count };
@@ -302,6 +328,15 @@ impl<'a> UnitSlice for &'a mut [u16] {
 
     fn copy_utf8_at(&mut self, at: usize, src: &[u8]) -> (usize, usize) {
         (0, at)
+    }
+
+    fn copy_units_at<E: Endian>(
+        &mut self,
+        at: usize,
+        source: &UnalignedU16Slice,
+        from: usize,
+    ) -> (usize, usize) {
+        move_utf16::<E>(source, from, self, at)
     }
 
     ghost utf16_room = { 0 };
