@@ -9,6 +9,7 @@ pub mod OneByte
 pub mod Runs
 pub mod PairPlaces
 pub mod PairSteps
+pub mod Spelled
 pub mod StepLemmas
 pub mod Turns
 pub mod UnitLemmas

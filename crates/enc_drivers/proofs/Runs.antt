@@ -1,22 +1,18 @@
 -- Decoding where nothing is held: a copy of ASCII, and the unit at the front of what is left.
 use Rattle.std.proofs.Common.{◌≡◌, ℕ, zero, suc, ◌+◌, ◌-◌, ◌<◌, ◌≤◌, Bool, true, false, ltb, cond, List, [], ◌∷◌, ◌++◌, All, length, take, drop, map, refl, ap, sym, subst, ◌∙◌, inr, arith, length-append, length-drop, length-take}
-use Rattle.std.specs.Prelude.{encode_utf8}
 use Rattle.std.proofs.Math.Dec.{leb}
 use Rattle.std.proofs.lemmas.Bool.{leb-false, leb-true, ltb-true}
 use Rattle.std.proofs.lemmas.List.{append-nil, drop-append-le, take-append-drop, take-append-le, take-take, take_all, drop_all}
 use Rattle.std.proofs.lemmas.List.Elements.{All-nil, All-cons, All-append, All-drop, All-take, All-tail}
 use Rattle.std.proofs.lemmas.List.Sums.{sum_by-cons}
 use Rattle.enc_handles.specs.Ascii.{ascii_len, moved_len, moved_text}
-use Rattle.enc_handles.specs.Rooms.{ascii_text_utf8}
 use Rattle.enc_handles.specs.Utf8.{text_of}
 use Rattle.enc_handles.specs.Writing.{Writing, after_writing}
 use Rattle.enc_handles.proofs.AsciiLemmas.{moved_text-ascii, length-take-moved_len, moved_len_le}
 use Rattle.enc_drivers.specs.declared.unit.Item.{Item}
 use Rattle.enc_drivers.specs.declared.unit.Item.TheVariants as item
 use Rattle.enc_drivers.specs.declared.unit.Mode.{Mode}
-use Rattle.enc_drivers.specs.Bulk.{KeepsAscii, ReadsAs}
-use Rattle.enc_drivers.specs.Codes.Utf8.{utf8_unit}
-use Rattle.enc_drivers.specs.Lemmas.Scalars.{scalar_low}
+use Rattle.enc_drivers.specs.Bulk.{KeepsAscii}
 use Rattle.enc_drivers.specs.Turn.{Goes, ReadsOnto}
 use Rattle.enc_drivers.specs.Resume.{MayHold, item_in, text_in, unit_bytes}
 use Rattle.enc_drivers.specs.Steps.{MayFollow, IsDecided, IsUndecided}
@@ -24,7 +20,6 @@ use Rattle.enc_drivers.specs.Units.{Code, IsCode, IsUnitOf, AreBytes, UnitAt, un
 use Rattle.enc_drivers.proofs.FrontSteps.{undecided_few, open_front}
 use Rattle.enc_drivers.proofs.Turns.{writing_none}
 use Rattle.enc_drivers.proofs.UnitLemmas.{units_some}
-use Rattle.enc_drivers.proofs.Utf8RoundTrip.{utf8_round_trip}
 
 abbrev well : Item × ℕ → Type 0
 well u = ¬ (u.0 ≡ item.Malformed)
@@ -198,9 +193,3 @@ copied_ascii unit form last mode xs n w w' laws ascii one are count written =
       fewer = omega arith;
       ahead = λ some held. absurd (omega arith);
     }
-
--- UTF-8 keeps ASCII
-pub utf_8_ascii : (unit : Code) → ReadsAs utf8_unit unit → KeepsAscii unit
-utf_8_ascii unit same mode byte rest low =
-    let one : encode_utf8 byte ≡ byte ∷ [] = ascii_text_utf8 byte low in
-    same mode (byte ∷ rest) ∙ rw one at (utf8_round_trip mode byte rest (scalar_low byte (omega arith)))

@@ -4,6 +4,7 @@ pub mod EucJpLaw
 pub mod EucKrLaw
 pub mod Gb18030Law
 pub mod Iso2022JpLaw
+pub mod LeastPlace
 pub mod PairsLaw
 pub mod Scalars
 pub mod SequenceLaw

@@ -1,5 +1,7 @@
 -- What the steps of a driver do, for the contracts of its private functions.
 use Rattle.std.specs.Prelude.{◌≡◌, ℕ, ◌+◌, ◌-◌, ◌<◌, ◌≤◌, Bool, true, List, [], ◌++◌, length, take, drop, Option, None, Some}
+use Rattle.std.specs.List.{flat_map}
+use Rattle.enc_handles.specs.Utf8.{AreScalars, text_of}
 use Rattle.enc_handles.specs.Writing.{Writing, after_writing}
 use Rattle.enc_handles.specs.declared.results.DecoderResult.{DecoderResult}
 use Rattle.enc_handles.specs.declared.results.DecoderResult.TheVariants as result
@@ -39,6 +41,15 @@ pub record ReadsOnto (unit : Code) (mode : Mode) (old new src : List ℕ) (n : �
 pub record Looks (unit : Code) (mode : Mode) (last : Bool) (old new src : List ℕ) (n : ℕ) (step : Step) : Type 0 where
   pub reads : ReadsOnto unit mode old new src n
   pub finds : Finds unit last (record { held = new; mode = mode }) (drop n src) step
+
+-- the first n bytes of src were read, which spell scalars, and the text of these was written
+pub record CopiesScalars (spell form : ℕ → List ℕ) (src : List ℕ) (n : ℕ) (from to : Writing) : Type 0 where
+  pub scalars : List ℕ
+  pub each : AreScalars scalars
+  pub front : take n src ≡ flat_map spell scalars
+  pub within : n ≤ length src
+  pub text : to ≡ after_writing from (text_of form scalars)
+  pub fits : length (text_of form scalars) ≤ from.free
 
 -- a part of a decode call: how far it has come in src
 pub record Goes (unit : Code) (form : ℕ → List ℕ) (last : Bool) (before after : Standing) (src : List ℕ) (count : ℕ) (from to : Writing) (malformed : List (Item × ℕ)) : Type 0 where

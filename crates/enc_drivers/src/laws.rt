@@ -3,6 +3,7 @@
 ghost use Rattle.std.specs.Prelude.{◌≡◌, ℕ, ◌+◌, ◌*◌, ◌<◌, ◌≤◌, Bool, true, false, List, [], ◌∷◌, ◌++◌, length, drop, encode_utf8, ◌↔◌};
 ghost use Rattle.std.specs.Char.{IsScalar};
 ghost use Rattle.std.specs.List.{All, sum_by};
+ghost use Rattle.enc_drivers.specs.declared.code.Bulk.{Bulk};
 ghost use Rattle.enc_drivers.specs.declared.code.Step.{Step};
 ghost use Rattle.enc_drivers.specs.declared.unit.Item.{Item};
 ghost use Rattle.enc_drivers.specs.declared.unit.Item.TheVariants.{Malformed};
@@ -26,7 +27,7 @@ ghost use Rattle.enc_drivers.specs.Codes.Gb18030.{gb18030_bytes, ranges_bytes, g
 ghost use Rattle.enc_drivers.specs.Codes.Iso2022Jp.{set_of, iso_2022_jp_bytes, iso_2022_jp_unit};
 ghost use Rattle.enc_drivers.specs.Codes.ShiftJis.{is_shift_jis_lead, is_shift_jis_trail, shift_jis_place, shift_jis_at, shift_jis_bytes, shift_jis_unit};
 
-use crate::code::Step;
+use crate::code::{Bulk, Step};
 use crate::{Item, JisSet, Mode};
 
 /// A unit of UTF-8 has one to four bytes, its text at most three bytes for each, and the first four bytes
@@ -235,6 +236,7 @@ pub fn equality()
     ensures sets { (x y : JisSet) → (⟦<JisSet as PartialEq>⟧.eq x y ≡ true) ↔ (x ≡ y) }
     ensures modes { (x y : Mode) → (⟦<Mode as PartialEq>⟧.eq x y ≡ true) ↔ (x ≡ y) }
     ensures steps { (x y : Step) → (⟦<Step as PartialEq>⟧.eq x y ≡ true) ↔ (x ≡ y) }
+    ensures bulks { (x y : Bulk) → (⟦<Bulk as PartialEq>⟧.eq x y ≡ true) ↔ (x ≡ y) }
 {}
 
 /// A clone of a value of a type of this crate is that value.
@@ -243,4 +245,5 @@ pub fn clones()
     ensures sets { (x y : JisSet) → ⟦<JisSet as Clone>⟧.is_clone x y → y ≡ x }
     ensures modes { (x y : Mode) → ⟦<Mode as Clone>⟧.is_clone x y → y ≡ x }
     ensures steps { (x y : Step) → ⟦<Step as Clone>⟧.is_clone x y → y ≡ x }
+    ensures bulks { (x y : Bulk) → ⟦<Bulk as Clone>⟧.is_clone x y → y ≡ x }
 {}

@@ -96,18 +96,20 @@ impl Lookup for OneRow {
     }
 }
 
-// Decodes a piece, and appends its text, with U+FFFD for malformed units, and the lengths of these.
+// Decodes a piece into so much room a call, and appends its text, with U+FFFD for malformed units, and the lengths of these.
 fn decode_piece<C: Code>(
     driver: &mut GeneralDriver<C>,
     piece: &[u8],
     last: bool,
+    room: usize,
     text: &mut Vec<u8>,
     lengths: &mut Vec<u8>,
 ) -> Result<bool, Fail> {
     let mut rest = piece;
     for _ in 0..100 {
-        let mut dst = [0; 5];
-        let (result, read, written) = driver.decode_to_utf8_raw(rest, &mut dst, last);
+        let mut buffer = [0; 40];
+        let dst = &mut buffer[..room.min(40)];
+        let (result, read, written) = driver.decode_to_utf8_raw(rest, dst, last);
         rest = &rest[read..];
         text.extend_from_slice(&dst[..written])?;
         match result {
@@ -138,11 +140,80 @@ pub(crate) fn check_cut<C: Code + Drop>(
     let mut text = Vec::new(alloc);
     let mut lengths = Vec::new(alloc);
     assert!(rt; cut <= bytes.len());
-    let first = decode_piece(&mut driver, &bytes[..cut], false, &mut text, &mut lengths)?;
+    let first = decode_piece(
+        &mut driver,
+        &bytes[..cut],
+        false,
+        5,
+        &mut text,
+        &mut lengths,
+    )?;
     assert!(rt; first, "{bytes:?} at {cut}");
-    let second = decode_piece(&mut driver, &bytes[cut..], true, &mut text, &mut lengths)?;
+    let second = decode_piece(&mut driver, &bytes[cut..], true, 5, &mut text, &mut lengths)?;
     assert!(rt; second, "{bytes:?} at {cut}");
     assert_eq!(rt; text.as_slice(), wanted.as_bytes(), "{bytes:?} at {cut}");
     assert_eq!(rt; lengths.as_slice(), *wanted_lengths, "{bytes:?} at {cut}");
+    Ok(())
+}
+
+// The text of bytes one unit at a time, by steps alone, with U+FFFD for malformed units; `mode` goes on behind them.
+fn unit_by_unit<C: Code>(
+    alloc: Global,
+    code: &C,
+    mode: &mut Mode,
+    bytes: &[u8],
+) -> Result<String, Fail> {
+    let mut text = String::new(alloc);
+    let mut rest = bytes;
+    for _ in 0..bytes.len() {
+        if rest.is_empty() {
+            break;
+        }
+        let front = if rest.len() < 4 { rest } else { &rest[..4] };
+        let Step::Unit { item, length, next } = code.step(*mode, front, rest.len() <= 4) else {
+            break;
+        };
+        match item {
+            Item::One(scalar) => text.push(scalar)?,
+            Item::Two(first, second) => {
+                text.push(first)?;
+                text.push(second)?;
+            }
+            Item::Malformed => text.push('\u{fffd}')?,
+            Item::Silent => {}
+        }
+        rest = &rest[usize::from(length).min(rest.len())..];
+        *mode = next;
+    }
+    Ok(text)
+}
+
+// Compares a driver with the steps of its code: a text in two pieces, at every cut and in several rooms.
+pub(crate) fn check_by_units<C: Code + Drop>(
+    rt: &impl Abort,
+    alloc: Global,
+    code: C,
+    same: &C,
+    bytes: &[u8],
+) -> Result<(), Fail> {
+    let mut driver = GeneralDriver::new(code);
+    let mut mode = Mode::Plain;
+    for room in 4..40 {
+        for cut in 0..=bytes.len() {
+            let wanted = unit_by_unit(alloc, same, &mut mode, bytes)?;
+            let mut text = Vec::new(alloc);
+            let mut lengths = Vec::new(alloc);
+            let (one, two) = bytes.split_at(cut);
+            let first = decode_piece(&mut driver, one, false, room, &mut text, &mut lengths)?;
+            assert!(rt; first, "{bytes:?} at {cut} into {room}");
+            let second = decode_piece(&mut driver, two, true, room, &mut text, &mut lengths)?;
+            assert!(rt; second, "{bytes:?} at {cut} into {room}");
+            assert_eq!(rt;
+                text.as_slice(),
+                wanted.as_bytes(),
+                "{bytes:?} at {cut} into {room}"
+            );
+        }
+    }
     Ok(())
 }

@@ -31,6 +31,7 @@ impl<'t, L: Lookup> Code for Big5<'t, L> {
 
     ghost unit = { λ code. big5_unit (L.places code.index.now) };
 
+    #[inline(always)]
     fn step(&self, mode: Mode, front: &[u8], last: bool) -> Step {
         pairs::step(self, mode, front, last)
     }
@@ -53,6 +54,7 @@ impl<'t, L: Lookup> PairCode for Big5<'t, L> {
         pairs::ascii_alone(byte)
     }
 
+    #[inline(always)]
     fn both(&self, lead: u8, second: u8) -> Item {
         if !is_trail(second) {
             return Item::Malformed;
@@ -78,6 +80,7 @@ fn place(lead: u8, trail: u8) -> u32
 }
 
 // What stands at a place.
+#[inline(always)]
 #[tactic(auto, unfolding(crate::specs::Codes::Big5::big5_at))]
 fn at<L: Lookup>(index: &L, place: u32) -> Item
     ensures { result ≡ big5_at (L.places index.now) place }

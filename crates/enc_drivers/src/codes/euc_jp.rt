@@ -34,6 +34,7 @@ impl<'t, L: Lookup> Code for EucJp<'t, L> {
 
     ghost unit = { λ code. euc_jp_unit (L.places code.jis0208.now) (L.places code.jis0212.now) };
 
+    #[inline(always)]
     fn step(&self, mode: Mode, front: &[u8], last: bool) -> Step {
         let lead = front[0];
         if lead < 0x80 {
@@ -86,6 +87,7 @@ fn names_jis0212(lead: u8, second: u8) -> bool
 }
 
 // The scalar of a sequence of two bytes.
+#[inline(always)]
 #[tactic(auto, unfolding(crate::specs::Codes::EucJp::euc_jp_scalar))]
 fn two_byte_scalar<L: Lookup>(jis0208: &L, lead: u8, second: u8) -> Option<char>
     ensures { result ≡ euc_jp_scalar (L.places jis0208.now) lead second }
@@ -97,6 +99,7 @@ fn two_byte_scalar<L: Lookup>(jis0208: &L, lead: u8, second: u8) -> Option<char>
 }
 
 // The scalar of two bytes of a row in an index.
+#[inline(always)]
 #[tactic(auto, unfolding(crate::specs::Codes::EucJp::row_scalar))]
 fn row_scalar<L: Lookup>(index: &L, first: u8, second: u8) -> Option<char>
     ensures { result ≡ row_scalar (L.places index.now) first second }

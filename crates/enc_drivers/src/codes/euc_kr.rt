@@ -31,6 +31,7 @@ impl<'t, L: Lookup> Code for EucKr<'t, L> {
 
     ghost unit = { λ code. euc_kr_unit (L.places code.index.now) };
 
+    #[inline(always)]
     fn step(&self, mode: Mode, front: &[u8], last: bool) -> Step {
         pairs::step(self, mode, front, last)
     }
@@ -53,6 +54,7 @@ impl<'t, L: Lookup> PairCode for EucKr<'t, L> {
         pairs::ascii_alone(byte)
     }
 
+    #[inline(always)]
     fn both(&self, lead: u8, second: u8) -> Item {
         if !is_trail(second) {
             return Item::Malformed;

@@ -60,6 +60,7 @@ impl<'t, L: Lookup, R: Lookup> Code for Gb18030<'t, L, R> {
 
     ghost unit = { λ code. gb18030_unit (L.places code.index.now) (R.places code.ranges.now) };
 
+    #[inline(always)]
     fn step(&self, mode: Mode, front: &[u8], last: bool) -> Step {
         let first = front[0];
         if first < 0x80 {
@@ -111,6 +112,7 @@ fn is_trail(byte: u8) -> bool
 }
 
 // The scalar of a sequence of two bytes.
+#[inline(always)]
 #[tactic(auto, unfolding(crate::specs::Codes::Gb18030::gb18030_scalar))]
 fn two_byte_scalar<L: Lookup>(index: &L, first: u8, second: u8) -> Option<char>
     requires { 0x81 ≤ first }

@@ -29,6 +29,7 @@ impl<'t, L: Lookup> Iso2022Jp<'t, L> {
     }
 
     // What a front tells that begins with 1B.
+    #[inline(always)]
     fn escape_step(&self, mode: Mode, front: &[u8], last: bool) -> Step
         requires some { 0 < length front.now }
         requires escape { slice_index front.now 0 ≡ 0x1B }
@@ -52,6 +53,7 @@ impl<'t, L: Lookup> Code for Iso2022Jp<'t, L> {
 
     ghost unit = { λ code. iso_2022_jp_unit (L.places code.jis0208.now) };
 
+    #[inline(always)]
     fn step(&self, mode: Mode, front: &[u8], last: bool) -> Step {
         let first = front[0];
         if first == 0x1B {
@@ -139,6 +141,7 @@ fn escape_item(mode: Mode) -> Item
 }
 
 // The scalar of one byte in a set whose characters have one.
+#[inline(always)]
 fn single_scalar(set: JisSet, byte: u8) -> Option<char>
     ensures { result ≡ single_scalar set byte }
 {

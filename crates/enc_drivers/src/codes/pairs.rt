@@ -30,6 +30,7 @@ pub(crate) trait PairCode {
 }
 
 // What a front tells of the unit there.
+#[inline(always)]
 pub(crate) fn step<P: PairCode>(pairs: &P, mode: Mode, front: &[u8], last: bool) -> Step
     requires some { 0 < length front.now }
     requires few { length front.now ≤ 4 }
@@ -58,6 +59,7 @@ fn alone(mode: Mode, item: Item) -> Step
 }
 
 // Two bytes that stand for an item, or fail.
+#[inline(always)]
 fn both(mode: Mode, item: Item, second: u8) -> Step
     ensures { result ≡ step.Unit item (both_len item second) mode }
 {

@@ -31,6 +31,7 @@ impl<'t, L: Lookup> Code for ShiftJis<'t, L> {
 
     ghost unit = { λ code. shift_jis_unit (L.places code.jis0208.now) };
 
+    #[inline(always)]
     fn step(&self, mode: Mode, front: &[u8], last: bool) -> Step {
         pairs::step(self, mode, front, last)
     }
@@ -53,6 +54,7 @@ impl<'t, L: Lookup> PairCode for ShiftJis<'t, L> {
         alone(byte)
     }
 
+    #[inline(always)]
     fn both(&self, lead: u8, second: u8) -> Item {
         if !is_trail(second) {
             return Item::Malformed;
@@ -99,6 +101,7 @@ fn place(lead: u8, trail: u8) -> u32
 }
 
 // What stands at a place.
+#[inline(always)]
 #[tactic(auto, unfolding(crate::specs::Codes::ShiftJis::shift_jis_at))]
 fn at<L: Lookup>(jis0208: &L, place: u32) -> Item
     ensures { result ≡ shift_jis_at (L.places jis0208.now) place }

@@ -33,6 +33,7 @@ impl<'t, L: Lookup> Code for SingleByte<'t, L> {
 
     ghost unit = { λ code. single_byte_unit (L.places code.index.now) };
 
+    #[inline(always)]
     fn step(&self, mode: Mode, front: &[u8], last: bool) -> Step {
         let _ = last;
         Step::Unit {
@@ -50,6 +51,7 @@ impl<'t, L: Lookup> Code for SingleByte<'t, L> {
 }
 
 // What a byte stands for.
+#[inline(always)]
 #[tactic(auto, unfolding(crate::specs::Codes::SingleByte::single_byte_item))]
 fn item_of<L: Lookup>(index: &L, byte: u8) -> Item
     ensures { result ≡ single_byte_item (L.places index.now) byte }

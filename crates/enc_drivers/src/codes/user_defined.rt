@@ -27,6 +27,7 @@ impl Code for UserDefined {
 
     ghost unit = { λ code. user_defined_unit };
 
+    #[inline(always)]
     fn step(&self, mode: Mode, front: &[u8], last: bool) -> Step {
         let _ = last;
         Step::Unit {

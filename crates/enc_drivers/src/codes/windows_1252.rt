@@ -35,6 +35,7 @@ impl Code for Windows1252 {
 
     ghost unit = { λ code. windows_1252_unit };
 
+    #[inline(always)]
     fn step(&self, mode: Mode, front: &[u8], last: bool) -> Step {
         let _ = last;
         Step::Unit {

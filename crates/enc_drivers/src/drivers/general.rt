@@ -7,6 +7,8 @@ ghost use Rattle.enc_handles.specs.Destination.{writing};
 ghost use Rattle.enc_handles.specs.Reading.{left};
 ghost use Rattle.enc_handles.specs.Writing.{after_writing};
 ghost use Rattle.enc_drivers.specs.Front.{front_bytes};
+ghost use Rattle.enc_drivers.specs.Codes.Utf16.{scalar_bytes};
+ghost use Rattle.enc_drivers.specs.Turn.{CopiesScalars};
 ghost use Rattle.enc_drivers.specs.Units.{AreBytes, HasScalars};
 ghost use Rattle.enc_drivers.specs.Resume.{item_in};
 
@@ -15,6 +17,7 @@ use crate::front::Front;
 use crate::{Item, Mode};
 use enc_handles::byte_source::ByteSource;
 use enc_handles::destination::{Destination, DestinationOver, Utf8Destination, Utf16Destination};
+use enc_handles::endian::{BigEndian, Endian, LittleEndian};
 use enc_handles::results::DecoderResult;
 use enc_handles::space::{CopyAsciiResult, Space};
 use enc_handles::unit_slice::UnitSlice;
@@ -86,7 +89,6 @@ impl<C: Code> GeneralDriver<C> {
     }
 
     // The unit of a front, or `More` where it is empty or undecided.
-    #[inline(always)]
     fn step(&self, front: &[u8], last: bool) -> Step
         requires { length front.now ≤ 4 }
         ensures { StepsFront (unit_of self.now) last (record { held = front.now; mode = (standing self.now).mode }) result }
@@ -230,18 +232,22 @@ impl<C: Code> GeneralDriver<C> {
             src.now result (writing dest.old) (writing dest.new) [] }
     {
         match self.code.bulk() {
+            Bulk::None => 0,
             Bulk::Ascii => copy_ascii(src, dest),
-            Bulk::Utf8 => copy_ascii(src, dest),
-            Bulk::None | Bulk::Utf16Le | Bulk::Utf16Be => 0,
+            Bulk::Utf8 => copy_utf8(src, dest),
+            Bulk::Utf16Le => copy_utf16::<LittleEndian, S>(src, dest),
+            Bulk::Utf16Be => copy_utf16::<BigEndian, S>(src, dest),
         }
     }
 
-    // Whether what follows is worth a copy: punctuation, digits and spaces between other characters are not.
+    // Whether what follows is worth a copy: any text of an encoding that is copied whole, and ASCII but punctuation, digits and
+    // spaces, which stand between other characters.
     #[inline(always)]
     fn is_run(&self, src: &[u8]) -> bool {
         match self.code.bulk() {
-            Bulk::Ascii | Bulk::Utf8 => !src.is_empty() && 0x3C <= src[0] && src[0] < 0x80,
-            Bulk::None | Bulk::Utf16Le | Bulk::Utf16Be => false,
+            Bulk::None => false,
+            Bulk::Ascii => !src.is_empty() && 0x3C <= src[0] && src[0] < 0x80,
+            Bulk::Utf8 | Bulk::Utf16Le | Bulk::Utf16Be => true,
         }
     }
 
@@ -319,5 +325,25 @@ fn copy_ascii<S: UnitSlice>(src: &[u8], dest: &mut DestinationOver<S>) -> usize
     match dest.copy_ascii_from_check_space_astral(&mut source) {
         CopyAsciiResult::Stop(_) => source.consumed(),
         CopyAsciiResult::GoOn(_) => source.consumed() - 1,
+    }
+}
+
+// Moves the whole well-formed sequences of UTF-8 at the front, as far as there is room, and answers how many bytes they were.
+fn copy_utf8<S: UnitSlice>(src: &[u8], dest: &mut DestinationOver<S>) -> usize
+    ensures { CopiesScalars encode_utf8 S.encode src.now result (writing dest.old) (writing dest.new) }
+{
+    let mut source = ByteSource::new(src);
+    dest.copy_utf8_up_to_invalid_from(&mut source);
+    source.consumed()
+}
+
+// Moves code units at the front up to an unpaired surrogate, as far as there is room, and answers how many bytes they were.
+fn copy_utf16<E: Endian, S: UnitSlice>(src: &[u8], dest: &mut DestinationOver<S>) -> usize
+    ensures { CopiesScalars (scalar_bytes E.OPPOSITE_ENDIAN) S.encode src.now result (writing dest.old) (writing dest.new) }
+{
+    let mut source = ByteSource::new(src);
+    match dest.copy_utf16_from::<E, &[u8]>(&mut source) {
+        None => source.consumed(),
+        Some(_) => source.consumed() - 2,
     }
 }

@@ -1,14 +1,18 @@
 //! The general driver on streams in pieces.
 
 use crate::code::Code;
+use crate::codes::euc_kr::EucKr;
+use crate::codes::iso_2022_jp::Iso2022Jp;
 use crate::codes::single_byte::SingleByte;
 use crate::codes::utf8::Utf8Code;
 use crate::codes::utf16::Utf16Code;
+use crate::codes::windows_1252::Windows1252;
 use crate::drivers::general::GeneralDriver;
-use crate::testing::Nothing;
+use crate::testing::{Alphas, Nothing, check_by_units};
 use enc_handles::endian::{BigEndian, LittleEndian};
 use enc_handles::results::DecoderResult;
 use std::process::Abort;
+use std::test::Fail;
 
 #[test]
 fn holds_the_code_unit_behind_a_lead(rt: HostRuntime) {
@@ -82,8 +86,12 @@ fn too_little_room(rt: HostRuntime) {
     assert_eq!(rt; full, (DecoderResult::OutputFull, 2, 2));
     let mut driver = GeneralDriver::new(Utf8Code::new());
     let mut units = [0; 1];
-    let full = driver.decode_to_utf16_raw(b"\xc3\xa9", &mut units, true);
+    let full = driver.decode_to_utf16_raw(b"\xf0\x9f\x98\x80", &mut units, true);
     assert_eq!(rt; full, (DecoderResult::OutputFull, 0, 0));
+    let mut driver = GeneralDriver::new(Utf8Code::new());
+    let end = driver.decode_to_utf16_raw(b"\xc3\xa9", &mut units, true);
+    assert_eq!(rt; end, (DecoderResult::InputEmpty, 2, 1));
+    assert_eq!(rt; units[0], 0xe9);
 }
 
 #[test]
@@ -94,4 +102,59 @@ fn to_utf_16(rt: HostRuntime) {
     assert_eq!(rt; end, (DecoderResult::InputEmpty, 8, 4));
     let wanted: [u16; 4] = [0x61, 0x20ac, 0xd83d, 0xde00];
     assert_eq!(rt; &units[..4], wanted.as_slice());
+}
+
+#[test]
+fn copies_are_as_unit_by_unit(rt: HostRuntime) -> Result<(), Fail> {
+    let alloc = rt.alloc();
+    let text = b"abcdefghijklmnopqrst\xc3\xa9\xe2\x82\xac\xf0\x9f\x98\x80\xff\xe2\x82A\xf0\x9f\x98";
+    check_by_units(&rt, alloc, Utf8Code::new(), &Utf8Code::new(), text)?;
+    let bytes = b"abcdefghijklmnopqrst\xe9\x80\x9f<=>uvwxyz\xff\xff";
+    check_by_units(&rt, alloc, Windows1252::new(), &Windows1252::new(), bytes)?;
+    check_by_units(
+        &rt,
+        alloc,
+        SingleByte::new(&Nothing),
+        &SingleByte::new(&Nothing),
+        bytes,
+    )?;
+    let pairs = b"abcdefghijklmnopqrst\xb0\xa1\xb0A<\xff\xb0\xa1\xb0\xffuvw\xb0";
+    check_by_units(&rt, alloc, EucKr::new(&Alphas), &EucKr::new(&Alphas), pairs)?;
+    check_by_units(
+        &rt,
+        alloc,
+        EucKr::new(&Nothing),
+        &EucKr::new(&Nothing),
+        pairs,
+    )?;
+    let escapes = b"ab\x1b$B$\"0!\x1b(Jc\\~\x1b(I1\x1b(B\x1b$Bxyz\x1b$$A";
+    check_by_units(
+        &rt,
+        alloc,
+        Iso2022Jp::new(&Alphas),
+        &Iso2022Jp::new(&Alphas),
+        escapes,
+    )
+}
+
+#[test]
+fn units_of_sixteen_bits_are_as_unit_by_unit(rt: HostRuntime) -> Result<(), Fail> {
+    let alloc = rt.alloc();
+    let little =
+        b"a\0b\0\xe9\0\xac\x20\x3d\xd8\0\xde\0\xdcc\0\0\xd8d\0\0\xd8\x01\xd8\0\xdce\0\0\xd8f";
+    let big = b"\0a\0b\0\xe9\x20\xac\xd8\x3d\xde\0\xdc\0\0c\xd8\0\0d\xd8\0\xd8\x01\xdc\0\0e\xd8\0f";
+    check_by_units(
+        &rt,
+        alloc,
+        Utf16Code::<LittleEndian>::new(),
+        &Utf16Code::<LittleEndian>::new(),
+        little,
+    )?;
+    check_by_units(
+        &rt,
+        alloc,
+        Utf16Code::<BigEndian>::new(),
+        &Utf16Code::<BigEndian>::new(),
+        big,
+    )
 }

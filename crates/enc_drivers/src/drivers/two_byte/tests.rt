@@ -17,3 +17,14 @@ fn both_widths(rt: HostRuntime) {
     let wanted: [u16; 2] = [0x3B1, 0x62];
     assert_eq!(rt; &units[..2], wanted.as_slice());
 }
+
+// The copy of ASCII stores a stride before it looks at it: behind the text stands what followed in the source.
+#[test]
+fn copies_ascii_by_strides(rt: HostRuntime) {
+    let mut driver = TwoByteDriver::new(EucKr::new(&Alphas));
+    let mut bytes = [0; 16];
+    let wrong = driver.decode_to_utf8_raw(b"abc\xffxxxxxxxxxxxx", &mut bytes, true);
+    assert_eq!(rt; wrong, (DecoderResult::Malformed(1, 0), 4, 3));
+    assert_eq!(rt; &bytes[..3], b"abc".as_slice());
+    assert_eq!(rt; bytes[5], b'x');
+}
