@@ -14,7 +14,7 @@ use Rattle.enc_handles.specs.declared.results.DecoderResult.TheVariants as resul
 use Rattle.enc_drivers.specs.declared.unit.Item.{Item}
 use Rattle.enc_drivers.specs.declared.unit.Item.TheVariants as item
 use Rattle.enc_drivers.specs.declared.unit.Mode.{Mode}
-use Rattle.enc_drivers.specs.Resume.{Standing, Resumes, ResumesWriting, item_in, text_in, malformed_of}
+use Rattle.enc_drivers.specs.Resume.{Standing, Resumes, ResumesWriting, item_in, text_in, malformed_of, unit_bytes}
 use Rattle.enc_drivers.specs.Units.{Code, IsCode, AreBytes, units}
 use Rattle.enc_drivers.proofs.CallLemmas.{short_call_law, text_in_utf_8}
 use Rattle.enc_drivers.proofs.UnitLemmas.{units_nil, units_some}
@@ -63,6 +63,11 @@ module _ (code : Code) (last : Bool) (a b : Standing) (src : List ℕ) (n : ℕ)
   pub length_held : (decoded malformed : List (Item × ℕ)) → Resumes code last a b src n decoded malformed → length b.held ≤ length a.held + n
   length_held decoded malformed call =
       omega (arith, ap length call.held, length-append a.held (take n src), length-append call.gone b.held, length-take-le n src within)
+
+  -- a malformed unit and what is held behind it are no more than was held and read
+  pub bytes_behind : {written : List ℕ} {malformed : List (Item × ℕ)} → IsCode code → ResumesWriting code encode_utf8 last a b src n written malformed
+      → unit_bytes malformed + length b.held ≤ length a.held + n
+  bytes_behind law call = omega (arith, short_call_law code law last a b src n call.decoded _ are are_src within call.resumes)
 
   -- a driver writes at most three bytes for each byte that it uses up
   pub short_written : IsCode code → (written : List ℕ) (malformed : List (Item × ℕ)) → ResumesWriting code encode_utf8 last a b src n written malformed

@@ -15,7 +15,7 @@ use Rattle.enc_front.specs.Kinds.{is_bmp, same_kind}
 use Rattle.enc_front.specs.Lemmas.Places.{cells_find_scalars}
 
 any_finds_scalars : (index : AnyIndex) → FindsScalars (any_places index)
-any_finds_scalars (OfCells index) = cells_find_scalars index.cells.items
+any_finds_scalars (OfCells index) = cells_find_scalars index.cells.cells.items
 any_finds_scalars (OfRanges ranges) = ranges.sound
 
 -- of the same kind as one without scalars above U+FFFF

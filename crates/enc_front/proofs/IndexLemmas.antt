@@ -72,7 +72,7 @@ unfolding cell_places
 no_cell_at cells place past = ap (λ x. option_and_then scalar_in x) (slice_get_past cells place past)
 
 -- the row of a place, where the rows up to the i-th have places up to it and those behind it have not
-none_fits : (rows : List (ℕ × ℕ)) (place : ℕ) → ((k : ℕ) (d : ℕ × ℕ) → k < length rows → nat_le (slice_index_or rows k d).0 place ≡ false) → row_of rows place ≡ None
+pub none_fits : (rows : List (ℕ × ℕ)) (place : ℕ) → ((k : ℕ) (d : ℕ × ℕ) → k < length rows → nat_le (slice_index_or rows k d).0 place ≡ false) → row_of rows place ≡ None
 none_fits [] place h = refl
 none_fits (row ∷ rows) place h =
     let head : nat_le row.0 place ≡ false = h 0 row (omega arith) in

@@ -1,9 +1,13 @@
+pub mod AheadLemmas
 pub mod AsciiLemmas
 pub mod CallLemmas
 pub mod CheckedIndexes
 pub mod IndexFileLemmas
 pub mod IndexLemmas
+pub mod KeyLemmas
 pub mod LabelLemmas
+pub mod LabelSearch
+pub mod LeastRowLemmas
 pub mod MarkLemmas
 pub mod RangeLemmas
 pub mod RowLemmas
@@ -12,3 +16,4 @@ pub mod ReplaceLemmas
 pub mod StartLemmas
 pub mod TextLemmas
 pub mod UnitLaws
+pub mod WholeLemmas

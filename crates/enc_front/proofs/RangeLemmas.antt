@@ -4,8 +4,7 @@ use Rattle.std.specs.Prelude.{nat_le, nat_lt, ◌==◌, slice_index_or}
 use Rattle.std.specs.Char.{IsScalar}
 use Rattle.std.specs.List.Sorted.{IsNonDecreasingBy}
 use Rattle.std.specs.Option.{option_map, option_or}
-use Rattle.std.proofs.lemmas.Bool.{eqb-true, leb-true, leb-false, ltb-true, ltb-false}
-use Rattle.std.proofs.lemmas.Bool.Decides.{nat_tests}
+use Rattle.std.proofs.lemmas.Bool.{leb-true, leb-false, ltb-true}
 use Rattle.std.proofs.lemmas.List.{append-nil, append_assoc}
 use Rattle.std.proofs.lemmas.List.Sorted.{IsNonDecreasingBy-push, IsNonDecreasingBy-short}
 use Rattle.enc_drivers.specs.Lookup.{FindsScalars}
@@ -14,7 +13,7 @@ use Rattle.enc_front.specs.declared.tables.Why.TheVariants as why
 use Rattle.enc_front.specs.Kinds.{place_count}
 use Rattle.enc_front.specs.Ranges.{row_of, is_outside, range_places}
 use Rattle.enc_front.specs.Scalars.{is_scalar}
-use Rattle.enc_front.specs.Tables.{fault_behind, follows, last_place, range_why, row_fault, row_why, run_end, run_fails}
+use Rattle.enc_front.specs.Tables.{fault_behind, follows, last_place, row_fault, row_why, run_end, run_fails}
 use Rattle.enc_front.proofs.RowLemmas.{five_none, not_false, none_parts}
 use Rattle.enc_front.proofs.RunLemmas.{run_scalar, inside_below}
 

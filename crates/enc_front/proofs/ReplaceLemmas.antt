@@ -1,5 +1,5 @@
 -- Decoding with replacement: a turn, and turns in a row, over plain values.
-use Rattle.std.proofs.Common.{◌≡◌, ℕ, ◌+◌, ◌≤◌, Bool, true, false, List, [], ◌∷◌, ◌++◌, length, drop, refl, ap, sym, ◌∙◌, arith, cond, inl, inr, append_assoc}
+use Rattle.std.proofs.Common.{◌≡◌, ℕ, ◌+◌, ◌-◌, ◌*◌, ◌<◌, ◌≤◌, Bool, true, false, List, [], ◌∷◌, ◌++◌, length, drop, refl, ap, sym, ◌∙◌, arith, cond, inl, inr, append_assoc}
 use Rattle.std.specs.Prelude.{nat_lt, ◌||◌, ◌&&◌, if◌then◌else◌}
 use Rattle.std.specs.List.{All}
 use Rattle.std.proofs.lemmas.List.{append-nil, drop-drop}
@@ -17,7 +17,7 @@ use Rattle.enc_drivers.specs.Units.{text, item_text, replacement}
 use Rattle.enc_drivers.proofs.CallLemmas.{text_in_utf_8}
 use Rattle.enc_drivers.proofs.UnitLemmas.{text_nil}
 use Rattle.enc_front.specs.DecoderSteps.{tells_malformed}
-use Rattle.enc_front.specs.DecoderCalls.{DecoderResumesWriting, Replaces, EndsMalformed, is_malformed, malformed_count, owed_count}
+use Rattle.enc_front.specs.DecoderCalls.{DecoderResumesWriting, Replaces, EndsMalformed, is_malformed, malformed_count, owed_count, room_for}
 use Rattle.enc_front.specs.Decoder.{DecoderStanding, owed, to_come, encoding_to_come, text_to_come}
 
 -- the text of units in a row
@@ -181,3 +181,8 @@ told_length (result.Malformed n k) = refl
 pub and_false : (b : Bool) → false ≡ (b && false)
 and_false true = refl
 and_false false = refl
+
+-- a call with room enough doesn't fill it
+pub not_full : (before after : DecoderStanding) (src new : List ℕ) (n m : ℕ) → room_for before (length src) ≤ length new → length before.place.held ≤ 3 → n ≤ length src
+    → m + 3 * (length after.place.held + owed_count after) ≤ 3 * (length before.place.held + n + owed_count before) → length new - m < 4 → ⊥
+not_full before after src new n m wide few within short full = omega (arith, wide, few, within, short, full)

@@ -1,23 +1,18 @@
 -- The rows of an index, one after the other: the first fault, and the index that rows without one make.
-use Rattle.std.proofs.Common.{◌≡◌, ℕ, ◌+◌, ◌-◌, ◌<◌, ◌≤◌, zero, suc, Bool, true, false, not, List, [], ◌∷◌, ◌++◌, length, take, drop, Option, Some, None, refl, sym, ◌∙◌, ap, subst, arith, if◌then◌else◌, ◌&&◌}
+use Rattle.std.proofs.Common.{◌≡◌, ℕ, ◌+◌, ◌<◌, ◌≤◌, zero, suc, Bool, true, false, not, List, [], ◌∷◌, ◌++◌, length, take, drop, Option, Some, None, refl, sym, ◌∙◌, ap, subst, arith, if◌then◌else◌, ◌&&◌}
 use Rattle.std.specs.Prelude.{find, is_some, nat_le, nat_lt, ◌==◌, slice_index_or}
-use Rattle.std.specs.List.{list_any}
 use Rattle.std.specs.Option.{option_map, option_map_or, option_or}
 use Rattle.std.proofs.lemmas.Bool.{eqb-true, ltb-false, leb-false}
-use Rattle.std.proofs.lemmas.Bool.Decides.{nat_tests}
-use Rattle.std.proofs.lemmas.List.{take_more, drop_more, length-take-le, append-nil, append_assoc}
+use Rattle.std.proofs.lemmas.List.{take_more, drop_more, length-take-le}
 use Rattle.std.proofs.lemmas.List.Folds.{find-append}
-use Rattle.std.proofs.lemmas.List.Sorted.{IsNonDecreasingBy-push, IsNonDecreasingBy-short}
-use Rattle.std.specs.List.Sorted.{IsNonDecreasingBy}
 use Rattle.enc_drivers.specs.Lookup.{Places, HasNoAstral}
-use Rattle.enc_front.specs.Cells.{cell_places}
 use Rattle.enc_front.specs.declared.tables.IndexKind.{IndexKind}
 use Rattle.enc_front.specs.declared.tables.IndexKind.TheVariants.{Big5, EucKr, Jis0208, Jis0212, Gb18030, Gb18030Ranges, Single}
 use Rattle.enc_front.specs.declared.tables.Why.{Why}
 use Rattle.enc_front.specs.declared.tables.Why.TheVariants as why
 use Rattle.enc_front.specs.Kinds.{is_bmp, is_ranges, place_count}
 use Rattle.enc_front.specs.Scalars.{is_scalar}
-use Rattle.enc_front.specs.Tables.{fault_behind, first_why, flat_why, follows, has_place, last_place, pair_places, range_why, row_fault, row_why, run_end, run_fails}
+use Rattle.enc_front.specs.Tables.{fault_behind, first_why, flat_why, follows, has_place, last_place, pair_places, range_why, row_why, run_end, run_fails}
 
 -- a row with a fault, and one without
 row_stops : (kind : IndexKind) (before : List (ℕ × ℕ)) (row : ℕ × ℕ) (after : List (ℕ × ℕ)) (why : Why) → row_why kind before row after ≡ Some why

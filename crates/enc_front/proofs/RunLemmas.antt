@@ -1,10 +1,10 @@
 -- The run of a row of ranges: its places between those that the ranges leave out.
-use Rattle.std.proofs.Common.{◌≡◌, ◌≢◌, ℕ, ◌+◌, ◌-◌, ◌<◌, ◌≤◌, zero, suc, Bool, true, false, not, List, [], ◌∷◌, Option, Some, None, refl, sym, ◌∙◌, ap, arith, ⊎_elim, inl, inr, ◌⊎◌, ◌&&◌, ◌||◌, min, max}
+use Rattle.std.proofs.Common.{◌≡◌, ℕ, ◌+◌, ◌-◌, ◌<◌, ◌≤◌, zero, suc, Bool, true, false, not, refl, sym, ◌∙◌, ap, arith, ⊎_elim, inl, inr, ◌⊎◌, ◌&&◌, ◌||◌, min, max}
 use Rattle.std.specs.Prelude.{nat_le, nat_lt, ◌==◌}
 use Rattle.std.specs.List.{list_any, range_with_len}
 use Rattle.std.proofs.lemmas.Bool.{cases_eq, cases_lt, ltb-false}
 use Rattle.std.proofs.lemmas.Bool.Decides.{nat_tests}
-use Rattle.enc_front.specs.Ranges.{row_of, is_outside, range_places}
+use Rattle.enc_front.specs.Ranges.{is_outside, range_places}
 use Rattle.enc_front.specs.Scalars.{is_scalar}
 use Rattle.enc_front.specs.Tables.{NumbersAreScalars, SomeNumberFails, gets_no_scalar, run_fails}
 

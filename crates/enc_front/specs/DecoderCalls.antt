@@ -7,7 +7,7 @@ use Rattle.enc_handles.specs.declared.results.DecoderResult.{DecoderResult}
 use Rattle.enc_handles.specs.declared.results.DecoderResult.TheVariants as result
 use Rattle.enc_drivers.specs.declared.unit.Item.{Item}
 use Rattle.enc_drivers.specs.declared.unit.Item.TheVariants as item
-use Rattle.enc_drivers.specs.Resume.{text_in, malformed_of}
+use Rattle.enc_drivers.specs.Resume.{text_in, malformed_of, unit_bytes}
 use Rattle.enc_drivers.specs.Steps.{MayFollow, IsUndecided}
 use Rattle.enc_drivers.specs.Units.{text}
 use Rattle.enc_front.specs.declared.encoding.Encoding.{Encoding}
@@ -42,11 +42,24 @@ pub record HoldsUndecided (at : DecoderPlace) : Type 0 where
   pub started : at.marks ≡ no_mark
   pub undecided : IsUndecided (unit at.encoding at.indexes) at.mode at.held
 
+-- nothing is held, or what follows decides what becomes of it
+abbrev pub HoldsOpen : DecoderPlace → Type 0
+HoldsOpen at = (at.held ≡ []) ⊎ (HoldsMark at ⊎ HoldsUndecided at)
+
+-- the last of the bytes that were read was needed: a decoder that had not read it stood behind the units `decoded` at a place where nothing was held, a
+-- part of a mark, or bytes whose unit depends on what follows; and these and that byte are at least `count` bytes
+pub record DecoderNeedsLast (last : Bool) (before : DecoderPlace) (src : List ℕ) (read count : ℕ) : Type 0 where
+  pub front : DecoderPlace
+  pub decoded : List (Item × ℕ)
+  pub resumes : DecoderResumes last before front src (read - 1) decoded []
+  pub undecided : HoldsOpen front
+  pub covers : count ≤ length front.held + 1
+
 -- what may be held where the input is empty: at its end nothing, and else at most three bytes, of a mark or of a unit that depends on what follows
 pub record DecoderMayHold (last : Bool) (at : DecoderPlace) : Type 0 where
   pub few : length at.held ≤ 3
   pub end : last ≡ true → at.held ≡ []
-  pub undecided : (at.held ≡ []) ⊎ (HoldsMark at ⊎ HoldsUndecided at)
+  pub undecided : HoldsOpen at
 
 -- a call has used up its input
 abbrev pub is_input_empty : DecoderResult → Bool
@@ -71,6 +84,11 @@ malformed_count us = count_by (λ u. is_malformed u.0) us
 -- one where U+FFFD is owed
 abbrev pub owed_count : DecoderStanding → ℕ
 owed_count at = if at.owes then 1 else 0
+
+-- room that is always enough for the text of so many bytes: three for each of them and of three that may be held, three where U+FFFD is owed, and four
+-- that are free at the end
+abbrev pub room_for : DecoderStanding → ℕ → ℕ
+room_for at count = 3 * (count + 3) + 4 + 3 * owed_count at
 
 -- units that end with a malformed one
 pub record EndsMalformed (us : List (Item × ℕ)) : Type 0 where
@@ -102,6 +120,7 @@ pub record Decodes (last : Bool) (before after : DecoderStanding) (src old new :
   pub output_full : tells ≡ result.OutputFull → length new - m < 4
   pub pending : tells ≡ result.OutputFull → 0 < length after.place.held + (length src - n)
   pub malformed : (size behind : ℕ) → tells ≡ result.Malformed size behind → behind ≡ length after.place.held
+  pub read_ahead : 0 < n → 0 < length after.place.held → DecoderNeedsLast last before.place src n (unit_bytes (malformed_of tells) + length after.place.held)
   pub end : after.finished ≡ (last && is_input_empty tells)
   pub nothing_owed : after.owes ≡ false
 
@@ -116,6 +135,7 @@ pub record DecodesReplacing (last : Bool) (before after : DecoderStanding) (src 
   pub short : m + 3 * (length after.place.held + owed_count after) ≤ 3 * (length before.place.held + n + owed_count before)
   pub input_empty : tells ≡ coder.InputEmpty → (n ≡ length src) × (after.owes ≡ false) × DecoderMayHold last after.place
   pub output_full : tells ≡ coder.OutputFull → length new - m < 4
+  pub enough : room_for before (length src) ≤ length new → ¬ (tells ≡ coder.OutputFull)
   pub pending : tells ≡ coder.OutputFull → 0 < length after.place.held + (length src - n) + owed_count after
   pub owed : after.owes ≡ true → length new - m < 3
   pub goes_on : 4 ≤ length new → m ≡ 0 → n ≡ length src

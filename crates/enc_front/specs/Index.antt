@@ -9,7 +9,7 @@ use Rattle.enc_front.specs.Cells.{cell_places}
 use Rattle.enc_front.specs.Ranges.{range_places}
 
 abbrev pub index_places : Index → Places
-index_places index = cell_places index.cells.items
+index_places index = cell_places index.cells.cells.items
 
 abbrev pub ranges_places : Ranges → Places
 ranges_places ranges = range_places ranges.rows.items

@@ -8,7 +8,10 @@ pub mod Encoding
 pub mod Index
 pub mod IndexFile
 pub mod Indexes
+pub mod Keys
 pub mod Kinds
+pub mod LabelOrder
+pub mod LeastRow
 pub mod Lemmas
 pub mod Marks
 pub mod Ranges
@@ -17,3 +20,4 @@ pub mod Start
 pub mod Tables
 pub mod Units
 pub mod Variant
+pub mod Whole

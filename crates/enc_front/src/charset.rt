@@ -13,6 +13,7 @@ pub(crate) mod tests;
 use crate::decoder::Decoder;
 use crate::encoding::Encoding;
 use crate::tables::Tables;
+use crate::whole::decode_whole;
 use std::alloc::{AllocError, Global};
 
 /// The encoding that a mail word's charset names.
@@ -42,14 +43,8 @@ impl Charset {
         requires { IsTrue (known (encoding_of self) (indexes_of tables.now)) }
         ensures { IfOk result (λ text. string_bytes text ≡ marked_text (encoding_of self) (indexes_of tables.now) bytes.now) }
     {
-        let mut text = text_room(alloc, bytes.len())?;
-        let mut decoder = Decoder::new(self.encoding, tables);
-        let (_, _, written, _) = decoder.decode_to_utf8(bytes, text.as_mut_slice(), true);
-        text.truncate(written);
-        match String::from_utf8(text) {
-            Ok(text) => Ok(text),
-            Err(_) => unreachable!(),
-        }
+        let (text, _) = decode_whole(alloc, Decoder::new(self.encoding, tables), bytes)?;
+        Ok(text)
     }
 
     /// The text of `bytes` in ASCII, with U+FFFD for each byte above 7F. Fails only for want of memory.
@@ -64,17 +59,6 @@ impl Charset {
         }
         Ok(text)
     }
-}
-
-// Room for the text of so many bytes: three bytes for each, and four that are free at the end.
-fn text_room(alloc: Global, count: usize) -> Result<Vec<u8>, AllocError>
-    ensures { IfOk result (λ text. vec_len text ≡ 3 * count + 4) }
-{
-    let room = count
-        .checked_mul(3)
-        .and_then(|room| room.checked_add(4))
-        .ok_or(AllocError)?;
-    vec![in alloc; 0u8; room]
 }
 
 // Appends an ASCII byte, or U+FFFD for another.

@@ -1,9 +1,9 @@
 //! The life cycle of a decoder: from the mark at the front of a stream to its end.
-ghost use Rattle.std.specs.Prelude.{◌≡◌, ℕ, ◌+◌, ◌-◌, ◌*◌, ◌<◌, ◌≤◌, ◌⊎◌, List, [], ◌∷◌, ◌++◌, length, take, drop, None, IfSome, true, false, ◌&&◌, IsTrue};
-ghost use Rattle.enc_drivers.specs.Resume.{malformed_of};
+ghost use Rattle.std.specs.Prelude.{◌≡◌, ℕ, ◌+◌, ◌-◌, ◌*◌, ◌^◌, ◌<◌, ◌≤◌, ◌⊎◌, List, [], ◌∷◌, ◌++◌, length, take, drop, None, IfSome, true, false, ◌&&◌, IsTrue};
+ghost use Rattle.enc_drivers.specs.Resume.{malformed_of, unit_bytes};
 ghost use Rattle.enc_drivers.specs.Units.{AreBytes};
 ghost use Rattle.enc_front.specs.Decoder.{any_mark, own_mark, no_mark, encoding_to_come, owed, to_come};
-ghost use Rattle.enc_front.specs.DecoderCalls.{Decodes, DecodesReplacing, DecoderResumes, DecoderResumesWriting, DecoderMayHold, Replaces, is_input_empty, owed_count};
+ghost use Rattle.enc_front.specs.DecoderCalls.{Decodes, DecodesReplacing, DecoderResumes, DecoderResumesWriting, DecoderMayHold, DecoderNeedsLast, HoldsOpen, Replaces, is_input_empty, owed_count, room_for};
 ghost use Rattle.enc_front.specs.declared.mark.Start.TheVariants.{Over};
 ghost use Rattle.enc_front.specs.DecoderSteps.{SameEnd, at_start, tells_malformed, with_more};
 ghost use Rattle.enc_front.specs.Indexes.{indexes_of, known, is_built_in};
@@ -111,14 +111,31 @@ impl<'t> Decoder<'t> {
         self.owes
     }
 
+    /// Room for the text of `byte_length` bytes, in bytes, that is always enough for
+    /// [`Decoder::decode_to_utf8`]: three for each byte and for each of three that may be held, three
+    /// where U+FFFD is owed, and four that are free at the end. None exactly where that is more than
+    /// `usize::MAX`.
+    pub fn max_utf8_buffer_length(&self, byte_length: usize) -> Option<usize>
+        ensures room { IfSome result (λ room. room ≡ room_for (standing_of self.now) byte_length) }
+        ensures none { result ≡ None → 2 ^ 64 ≤ room_for (standing_of self.now) byte_length }
+    {
+        let owed = if self.owes { 3 } else { 0 };
+        byte_length
+            .checked_add(3)?
+            .checked_mul(3)?
+            .checked_add(4)?
+            .checked_add(owed)
+    }
+
     /// Decodes to UTF-8: reads bytes of `src`, writes bytes to the front of `dst`, and answers how
     /// many. `last` says that `src` ends the stream; with it `InputEmpty` finishes the decoder.
     ///
     /// `InputEmpty`: all of `src` was read, and at most three bytes are held, a part of a mark or of
     /// a unit that depends on what follows; with `last` none. `OutputFull`: fewer than four bytes
     /// are free, and there is more to decode. `Malformed(n, k)`: a malformed unit of `n` bytes was
-    /// met, and `k` bytes behind it are held; the next call goes on with these. Bytes of `dst`
-    /// behind the text are free to change.
+    /// met, and `k` bytes behind it are held; the next call goes on with these. No byte is read that
+    /// wasn't needed: without the last one that was read, what stands there was undecided. Bytes of
+    /// `dst` behind the text are free to change.
     ///
     /// The decoder mustn't be finished, and mustn't owe U+FFFD.
     pub fn decode_to_utf8_without_replacement(
@@ -147,7 +164,8 @@ impl<'t> Decoder<'t> {
     /// `InputEmpty`: all of `src` was read, nothing is owed, and at most three bytes are held; with
     /// `last` none. `OutputFull`: fewer than four bytes are free, and there is more to decode or to
     /// write. Where U+FFFD has no room, which is three bytes, it is owed, and the next call writes
-    /// it first. A call with at least four bytes of room writes a byte or reads all of `src`.
+    /// it first. A call with at least four bytes of room writes a byte or reads all of `src`, and one
+    /// with the room of [`Decoder::max_utf8_buffer_length`] never answers `OutputFull`.
     ///
     /// The decoder mustn't be finished.
     pub fn decode_to_utf8(
@@ -274,6 +292,7 @@ impl<'t> Decoder<'t> {
     fn look_at(&mut self, byte: u8) -> bool
         ensures taken { result ≡ true → (more : List ℕ) →
             to_come (place_of self.old) (byte ∷ more) ≡ to_come (place_of self.new) more }
+        ensures open_before { result ≡ true → HoldsOpen (place_of self.old) }
         ensures taken_encoding { result ≡ true → (more : List ℕ) →
             encoding_to_come (place_of self.old) (byte ∷ more) ≡ encoding_to_come (place_of self.new) more }
         ensures held { result ≡ true →
@@ -315,6 +334,8 @@ impl<'t> Decoder<'t> {
         ensures held { length (place_of self.new).held ≤ length (place_of self.old).held + result }
         ensures refused { result < length src.now → (place_of self.new).marks ≡ no_mark }
         ensures ended { last ≡ true → (place_of self.new).marks ≡ no_mark }
+        ensures read_ahead { 0 < result → 0 < length (place_of self.new).held →
+            DecoderNeedsLast last (place_of self.old) src.now result (length (place_of self.new).held) }
         ensures same_end { SameEnd (standing_of self.old) (standing_of self.new) }
     {
         let mut read = 0;
@@ -340,6 +361,11 @@ impl<'t> Decoder<'t> {
         ensures len { length dst.new ≡ length dst.old }
         ensures short { result.2 + 3 * (length (malformed_of result.0) + length (place_of self.new).held)
             ≤ 3 * (length (place_of self.old).held + result.1) }
+        ensures behind { unit_bytes (malformed_of result.0) + length (place_of self.new).held
+            ≤ length (place_of self.old).held + result.1 }
+        ensures read_ahead { 0 < result.1 → 0 < length (place_of self.new).held →
+            DecoderNeedsLast last (place_of self.old) src.now result.1
+            (unit_bytes (malformed_of result.0) + length (place_of self.new).held) }
         ensures input_empty { result.0 ≡ DecoderResult.InputEmpty →
             (result.1 ≡ length src.now) × DecoderMayHold last (place_of self.new) }
         ensures output_full { result.0 ≡ DecoderResult.OutputFull → length dst.new - result.2 < 4 }
@@ -368,6 +394,8 @@ impl<'t> Decoder<'t> {
         ensures len { length dst.new ≡ length dst.old }
         ensures short { result.1 + 3 * (length (malformed_of result.0) + length (place_of self.new).held)
             ≤ 3 * length (place_of self.old).held }
+        ensures behind { unit_bytes (malformed_of result.0) + length (place_of self.new).held
+            ≤ length (place_of self.old).held }
         ensures all { result.0 ≡ DecoderResult.InputEmpty → self.new.replay.now ≡ [] }
         ensures output_full { result.0 ≡ DecoderResult.OutputFull → length dst.new - result.1 < 4 }
         ensures pending { result.0 ≡ DecoderResult.OutputFull → 0 < length (place_of self.new).held }

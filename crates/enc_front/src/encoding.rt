@@ -1,7 +1,9 @@
 //! The encodings by name and by label.
 
-ghost use Rattle.std.specs.Prelude.{◌≡◌, ◌≤◌, length, IfSome, IsTrue};
+ghost use Rattle.std.specs.Prelude.{◌≡◌, ◌≤◌, length, IfSome, IsTrue, true};
 ghost use Rattle.std.specs.Str.{str_eq_ignore_ascii_case};
+ghost use Rattle.std.specs.Ordering.{is_lt};
+ghost use Rattle.enc_front.specs.LabelOrder.{label_order, rows_rise};
 ghost use Rattle.enc_front.specs.Encoding.{name_text, rows_of, find_label, label as encoding_labelled};
 ghost use Rattle.enc_front.specs.Marks.{mark};
 ghost use Rattle.enc_front.specs.Indexes.{is_built_in};
@@ -340,17 +342,35 @@ impl Encoding {
     }
 }
 
-// The encoding of the first of these labels that the label is, in any ASCII case.
-fn find_label(mut rows: &[(&[u8], Encoding)], label: &[u8]) -> Option<Encoding>
-    ensures { result ≡ find_label (rows_of rows.entry.now) label.now }
+// The encoding of the first of these labels that the label is, in any ASCII case, by a binary
+// search.
+fn find_label(rows: &[(&[u8], Encoding)], label: &[u8]) -> Option<Encoding>
+    requires { rows_rise (rows_of rows.now) ≡ true }
+    ensures { result ≡ find_label (rows_of rows.now) label.now }
 {
-    while let [row, rest @ ..] = rows {
-        if is_same_label(row.0, label) {
-            return Some(row.1);
-        }
-        rows = rest;
+    let at = rows.partition_point(|row| is_before(row.0, label));
+    let row = rows.get(at)?;
+    if is_same_label(row.0, label) {
+        return Some(row.1);
     }
     None
+}
+
+// Whether a label comes before another one, both in lower case.
+fn is_before(a: &[u8], b: &[u8]) -> bool
+    ensures { result ≡ is_lt (label_order a.now b.now) }
+{
+    for (i, x) in a.iter().enumerate() {
+        let Some(y) = b.get(i) else {
+            return false;
+        };
+        let x = x.to_ascii_lowercase();
+        let y = y.to_ascii_lowercase();
+        if x != y {
+            return x < y;
+        }
+    }
+    a.len() < b.len()
 }
 
 // Whether two labels differ at most in ASCII case.

@@ -1,32 +1,35 @@
 //! Indexes (Encoding Standard, section 5): the flat ones, and the ranges of gb18030.
 
-ghost use Rattle.std.specs.Prelude.{◌≡◌, ℕ, ◌+◌, ◌-◌, ◌<◌, ◌≤◌, ◌==◌, true, false, Some, None, if◌then◌else◌, is_some, length, IfOk, IfErr, IfSome, IfNone, IsTrue};
-ghost use Rattle.std.specs.List.Sorted.{IsNonDecreasingBy};
+ghost use Rattle.std.specs.Prelude.{◌≡◌, ℕ, ◌+◌, ◌-◌, ◌<◌, ◌≤◌, ◌==◌, nat_lt, true, false, Some, None, if◌then◌else◌, is_some, length, IfOk, IfErr, IfSome, IfNone, IsTrue};
+ghost use Rattle.std.specs.List.Sorted.{IsNonDecreasing, IsNonDecreasingBy};
 ghost use Rattle.enc_drivers.specs.Lookup.{Places, FindsScalars};
 ghost use Rattle.enc_front.specs.Cells.{cell_places};
+ghost use Rattle.enc_front.specs.Keys.{FindsPlaces, has_key, key_of, pair_keys};
+ghost use Rattle.enc_front.specs.LeastRow.{IsLeastByRows, IsPlaceIn, under, with_7457};
 ghost use Rattle.enc_front.specs.Ranges.{is_outside, range_places};
 ghost use Rattle.enc_front.specs.Scalars.{is_scalar};
 
+use crate::rows::end_behind;
 use enc_drivers::lookup::Lookup;
 use std::alloc::{AllocError, Global};
 
 // Stands in a cell without a scalar.
 const NONE: u32 = u32::MAX;
 
-/// An index with a scalar or none at each of its places.
+/// A scalar or none at each of some places.
 #[derive(Debug, Drop)]
-pub(crate) struct Index {
+pub(crate) struct Cells {
     cells: Vec<u32>,
 }
 
-impl Index {
-    // An index of so many places, without a scalar.
-    pub(crate) fn empty(alloc: Global, count: usize) -> Result<Index, AllocError>
-        ensures len { IfOk result (λ index. length index.cells.items ≡ count) }
-        ensures none { IfOk result (λ index. (place : ℕ) → cell_places index.cells.items place ≡ None) }
+impl Cells {
+    // So many places, without a scalar.
+    pub(crate) fn empty(alloc: Global, count: usize) -> Result<Cells, AllocError>
+        ensures len { IfOk result (λ cells. length cells.cells.items ≡ count) }
+        ensures none { IfOk result (λ cells. (place : ℕ) → cell_places cells.cells.items place ≡ None) }
     {
         let cells = vec![in alloc; NONE; count]?;
-        Ok(Index { cells })
+        Ok(Cells { cells })
     }
 
     // Puts a scalar at a place.
@@ -39,6 +42,35 @@ impl Index {
     {
         self.cells[place as usize] = scalar;
     }
+
+    // The scalar at a place, or none.
+    pub(crate) fn at(&self, place: u32) -> Option<char>
+        ensures { result ≡ cell_places self.now.cells.items place }
+    {
+        let cell = *self.cells.get(place as usize)?;
+        char::from_u32(cell)
+    }
+}
+
+/// An index with a scalar or none at each of its places, and a key for each scalar and its place,
+/// in the order of the scalars.
+#[derive(Debug, Drop)]
+pub(crate) struct Index {
+    cells: Cells,
+    keys: Vec<u64>,
+    ghost sorted: { IsNonDecreasing keys.items },
+    ghost finds: { FindsPlaces keys.items (cell_places cells.cells.items) },
+}
+
+impl Index {
+    // The index of these cells and keys.
+    pub(crate) fn of(cells: Cells, keys: Vec<u64>) -> Index
+        requires sorted { IsNonDecreasing keys.items }
+        requires finds { FindsPlaces keys.items (cell_places cells.cells.items) }
+        ensures { cell_places result.cells.cells.items ≡ cell_places cells.cells.items }
+    {
+        Index { cells, keys }
+    }
 }
 
 impl Lookup for Index {
@@ -48,11 +80,57 @@ impl Lookup for Index {
     ghost places = { index_places };
 
     fn at(&self, place: u32) -> Option<char> {
-        let cell = *self.cells.get(place as usize)?;
-        char::from_u32(cell)
+        self.cells.at(place)
     }
 
-    ghost scalars = { λ index. cells_find_scalars index.cells.items };
+    fn place_of(&self, scalar: char, below: u32) -> Option<u32> {
+        let least = key_of(u32::from(scalar), 0);
+        let keys = self.keys.as_slice();
+        let front = keys.partition_point(|key| *key < least);
+        let key = *keys.get(front)?;
+        place_below(key - least, below)
+    }
+
+    ghost scalars = { λ index. cells_find_scalars index.cells.cells.items };
+}
+
+/// The keys of pairs of a place and a scalar, in their order.
+pub(crate) fn sorted_keys(alloc: Global, pairs: &[(u32, u32)]) -> Result<Vec<u64>, AllocError>
+    ensures sorted { IfOk result (λ keys. IsNonDecreasing keys.items) }
+    ensures keys { IfOk result (λ keys. (key : ℕ) → has_key keys.items key ≡ has_key (pair_keys pairs.now) key) }
+{
+    let mut keys = keys_of(alloc, pairs)?;
+    keys.sort_unstable();
+    Ok(keys)
+}
+
+// The keys of pairs of a place and a scalar.
+fn keys_of(alloc: Global, pairs: &[(u32, u32)]) -> Result<Vec<u64>, AllocError>
+    ensures { IfOk result (λ keys. keys.items ≡ pair_keys pairs.now) }
+{
+    let mut keys = Vec::with_capacity(alloc, pairs.len())?;
+    for pair in pairs {
+        keys.push(key_of(pair.1, pair.0))?;
+    }
+    Ok(keys)
+}
+
+// A number for a scalar and a place, in the order of the scalars, and of the places for each.
+fn key_of(scalar: u32, place: u32) -> u64
+    ensures { result ≡ key_of scalar place }
+{
+    u64::from(scalar) * 0x1_0000_0000 + u64::from(place)
+}
+
+// A number as a place, if it is below a place.
+fn place_below(number: u64, below: u32) -> Option<u32>
+    ensures { result ≡ (if nat_lt number below then Some number else None) }
+{
+    if number < u64::from(below) {
+        Some(number as u32)
+    } else {
+        None
+    }
 }
 
 /// The ranges of gb18030: rows of a run's first place and its scalar, in the order of the places.
@@ -96,7 +174,73 @@ impl Lookup for Ranges {
         char::from_u32(scalar + (place - first))
     }
 
+    // Goes over the rows, of which the standard has some two hundred: the runs of checked rows may
+    // stand in any order of their scalars.
+    fn place_of(&self, scalar: char, below: u32) -> Option<u32> {
+        let by_rows = place_by_rows(self.rows.as_slice(), u32::from(scalar));
+        under(with_7457(by_rows, u32::from(scalar)), below)
+    }
+
     ghost scalars = { λ ranges. ranges.sound };
+}
+
+// The least place but 7457 that has a scalar by the rows, or none.
+fn place_by_rows(rows: &[(u32, u32)], scalar: u32) -> Option<u32>
+    requires { IsNonDecreasingBy (λ (row : ℕ × ℕ). row.0) rows.now }
+    ensures { IsLeastByRows rows.now scalar result }
+{
+    for (at, row) in rows.iter().enumerate() {
+        match place_in(*row, end_behind(rows, at), scalar) {
+            Some(place) => return Some(place),
+            None => (),
+        }
+    }
+    None
+}
+
+// The place in the run of a row, which ends before `end`, that has the scalar by the row's number,
+// or none.
+fn place_in(row: (u32, u32), end: u32, scalar: u32) -> Option<u32>
+    ensures { IsPlaceIn row end scalar result }
+{
+    if scalar < row.1 {
+        return None;
+    }
+    let offset = scalar - row.1;
+    if end.saturating_sub(row.0) <= offset {
+        return None;
+    }
+    let place = row.0 + offset;
+    if is_outside(place) {
+        return None;
+    }
+    if place == 7457 {
+        return None;
+    }
+    Some(place)
+}
+
+// With place 7457, which has U+E7C7 whatever the rows.
+fn with_7457(place: Option<u32>, scalar: u32) -> Option<u32>
+    ensures { result ≡ with_7457 place scalar }
+{
+    if scalar != 0xE7C7 {
+        return place;
+    }
+    match place {
+        Some(place) => Some(place.min(7457)),
+        None => Some(7457),
+    }
+}
+
+// A place, if it is below another.
+fn under(place: Option<u32>, below: u32) -> Option<u32>
+    ensures { result ≡ under place below }
+{
+    match place {
+        Some(place) => { if place < below { Some(place) } else { None } }
+        None => None,
+    }
 }
 
 // Whether the ranges leave out a place, whatever the rows.

@@ -5,6 +5,7 @@ ghost use Rattle.std.specs.List.{prefix_len};
 ghost use Rattle.enc_front.specs.IndexFile.{is_in, AreDigits, are_lengths, is_digit, is_hex_digit, digit_number, number_of, begins_scalar, is_line_end, line_of, lines_of, is_skipped, pair_behind, pair_in, pair_of_parts, pair_with, without_cr, index_pairs, IsMemoryOrLine};
 
 use std::alloc::{AllocError, AllocFailed, Global};
+use std::fmt;
 
 /// Why an index file has no pairs.
 #[derive(Debug, Drop, PartialEq)]
@@ -13,6 +14,18 @@ pub enum IndexError {
     Memory,
     /// The first bad line, counted from 1.
     BadLine(usize),
+}
+
+impl fmt::Display for IndexError {
+    fn fmt<W: fmt::Write>(&self, f: &mut fmt::Formatter<W>) -> fmt::Result {
+        match self {
+            IndexError::Memory => write!(f, "no memory"),
+            IndexError::BadLine(line) => write!(
+                f,
+                "line {line} is no pair of a place and a scalar value"
+            ),
+        }
+    }
 }
 
 impl From<AllocError> for IndexError {

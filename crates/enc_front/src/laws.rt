@@ -1,7 +1,11 @@
 //! Laws of encodings and decoders. Each function's contract is a law.
 ghost use Rattle.std.specs.Prelude.{◌≡◌, ◌≤◌, ◌==◌, Some, length, map, true};
+ghost use Rattle.enc_front.specs.declared.charset.Charset.{Charset};
 ghost use Rattle.enc_front.specs.declared.decoder.Decoder.{Decoder};
 ghost use Rattle.enc_front.specs.declared.encoding.Encoding.{Encoding};
+ghost use Rattle.enc_front.specs.declared.encoding.SingleName.{SingleName};
+ghost use Rattle.enc_front.specs.declared.tables.IndexKind.{IndexKind};
+ghost use Rattle.enc_front.specs.declared.tables.Why.{Why};
 ghost use Rattle.enc_front.specs.DecoderView.{place_of};
 ghost use Rattle.enc_front.specs.Encoding.{label, labels, name_text};
 
@@ -9,6 +13,7 @@ use crate::charset::Charset;
 use crate::encoding::{Encoding, SingleName};
 use crate::index_file::IndexError;
 use crate::tables::{IndexKind, TableError, Why};
+use std::hash::Hash;
 
 /// An encoding's name is a label of that encoding.
 #[tactic(auto, using(crate::proofs::LabelLemmas::name_is_label))]
@@ -83,3 +88,24 @@ pub fn equal_index_errors(a: &IndexError, b: &IndexError) -> bool
 {
     a == b
 }
+
+/// A clone of a value of a type of this crate is that value.
+pub fn clones()
+    ensures encodings { (x y : Encoding) → ⟦<Encoding as Clone>⟧.is_clone x y → y ≡ x }
+    ensures names { (x y : SingleName) → ⟦<SingleName as Clone>⟧.is_clone x y → y ≡ x }
+    ensures charsets { (x y : Charset) → ⟦<Charset as Clone>⟧.is_clone x y → y ≡ x }
+    ensures kinds { (x y : IndexKind) → ⟦<IndexKind as Clone>⟧.is_clone x y → y ≡ x }
+    ensures faults { (x y : Why) → ⟦<Why as Clone>⟧.is_clone x y → y ≡ x }
+{}
+
+/// Equal values give a hasher the same bytes, in the same writes.
+pub fn hashes()
+    ensures encodings { (x y : Encoding) → ⟦<Encoding as PartialEq>⟧.eq x y ≡ true
+        → ⟦<Encoding as Hash>⟧.hash_input x ≡ ⟦<Encoding as Hash>⟧.hash_input y }
+    ensures names { (x y : SingleName) → ⟦<SingleName as PartialEq>⟧.eq x y ≡ true
+        → ⟦<SingleName as Hash>⟧.hash_input x ≡ ⟦<SingleName as Hash>⟧.hash_input y }
+    ensures charsets { (x y : Charset) → ⟦<Charset as PartialEq>⟧.eq x y ≡ true
+        → ⟦<Charset as Hash>⟧.hash_input x ≡ ⟦<Charset as Hash>⟧.hash_input y }
+    ensures kinds { (x y : IndexKind) → ⟦<IndexKind as PartialEq>⟧.eq x y ≡ true
+        → ⟦<IndexKind as Hash>⟧.hash_input x ≡ ⟦<IndexKind as Hash>⟧.hash_input y }
+{}

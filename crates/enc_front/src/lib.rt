@@ -11,6 +11,7 @@ mod mark;
 mod rows;
 mod tables;
 mod variant;
+mod whole;
 
 pub use charset::Charset;
 pub use decoder::Decoder;

@@ -11,9 +11,8 @@ ghost use Rattle.enc_front.specs.Ranges.{range_places};
 ghost use Rattle.enc_front.specs.Scalars.{is_scalar};
 ghost use Rattle.enc_front.specs.Tables.{NumbersAreScalars, SomeNumberFails, flat_why, follows, pair_places, range_why, row_fault, run_end, run_fails};
 
-use crate::index::Index;
+use crate::index::{Cells, Index, sorted_keys};
 use crate::tables::{IndexKind, TableError, Why};
-use enc_drivers::lookup::Lookup;
 use std::alloc::Global;
 
 // The number of places of the ranges.
@@ -30,15 +29,16 @@ pub(crate) fn flat_index(
     ensures sound { IfOk result (λ _. row_fault kind pairs.now ≡ None) }
     ensures fault { IfErr result (IsMemoryOr (option_map row_error (row_fault kind pairs.now))) }
 {
-    let mut index = Index::empty(alloc, kind.place_count() as usize)?;
+    let mut cells = Cells::empty(alloc, kind.place_count() as usize)?;
     for (row, pair) in pairs.iter().enumerate() {
-        let taken = index.at(pair.0).is_some();
+        let taken = cells.at(pair.0).is_some();
         match flat_why(kind, taken, *pair) {
             Some(why) => return Err(TableError::BadTable { row, why }),
-            None => index.put(pair.0, pair.1),
+            None => cells.put(pair.0, pair.1),
         }
     }
-    Ok(index)
+    let keys = sorted_keys(alloc, pairs)?;
+    Ok(Index::of(cells, keys))
 }
 
 // Why a row can't stand in a flat index, where `taken` says that an earlier one has its place.
@@ -84,8 +84,8 @@ pub(crate) fn ranges_fault(rows: &[(u32, u32)]) -> Option<(usize, Why)>
     None
 }
 
-// Where the run of a row ends: at the place of the row behind it, or at the end of the ranges.
-fn end_behind(rows: &[(u32, u32)], at: usize) -> u32
+/// Where the run of a row ends: at the place of the row behind it, or at the end of the ranges.
+pub(crate) fn end_behind(rows: &[(u32, u32)], at: usize) -> u32
     requires { at < length rows.now }
     ensures { result ≡ run_end (drop (at + 1) rows.now) }
 {

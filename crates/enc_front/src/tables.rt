@@ -10,6 +10,7 @@ use crate::encoding::{Encoding, SingleName};
 use crate::index::{AnyIndex, Index, Ranges};
 use crate::rows::{flat_index, ranges_fault};
 use std::alloc::{AllocError, AllocFailed, Global};
+use std::fmt;
 
 /// Which index of the Encoding Standard's section 5 it is.
 #[derive(Clone, Copy, Debug, PartialEq, Eq, Hash)]
@@ -107,6 +108,30 @@ pub enum TableError {
         /// What is wrong with it.
         why: Why,
     },
+}
+
+impl fmt::Display for Why {
+    fn fmt<W: fmt::Write>(&self, f: &mut fmt::Formatter<W>) -> fmt::Result {
+        match self {
+            Why::Place => write!(f, "the place is past the last one"),
+            Why::Order => write!(f, "the place doesn't follow the one before it"),
+            Why::Twice => write!(f, "a row before it has the place"),
+            Why::Ascii => write!(f, "the value is an ASCII character"),
+            Why::NotScalar => write!(f, "the value is no scalar value"),
+            Why::NotBmp => write!(f, "the value is above U+FFFF"),
+            Why::Run => write!(f, "a place of the run gets no scalar value"),
+        }
+    }
+}
+
+impl fmt::Display for TableError {
+    fn fmt<W: fmt::Write>(&self, f: &mut fmt::Formatter<W>) -> fmt::Result {
+        match self {
+            TableError::Memory => write!(f, "no memory"),
+            TableError::AlreadyThere(_) => write!(f, "there is an index of this kind"),
+            TableError::BadTable { row, why } => write!(f, "row {row}: {why}"),
+        }
+    }
 }
 
 impl From<AllocError> for TableError {
@@ -316,3 +341,6 @@ impl Entry {
         })
     }
 }
+
+#[cfg(test)]
+mod tests;

@@ -64,3 +64,15 @@ fn counts_lines_to_the_first_bad_one(rt: HostRuntime) {
         assert_eq!(rt; fault, Some(IndexError::BadLine(line)), "{text:?}");
     }
 }
+
+#[test]
+fn shows_faults(rt: HostRuntime) -> Result<(), Fail> {
+    let line = format!(in rt.alloc(); "{}", IndexError::BadLine(7))?;
+    assert_eq!(rt;
+        line.as_str(),
+        "line 7 is no pair of a place and a scalar value"
+    );
+    let memory = format!(in rt.alloc(); "{}", IndexError::Memory)?;
+    assert_eq!(rt; memory.as_str(), "no memory");
+    Ok(())
+}

@@ -1,4 +1,4 @@
-use Rattle.std.proofs.Common.{◌≡◌, ◌+◌}
+use Rattle.std.proofs.Common.{◌+◌}
 use Rattle.enc_front.proofs.RowLemmas.{end_none, end_some}
 use Rattle.enc_front.proofs.rows.end_behind.Goals as goal
 

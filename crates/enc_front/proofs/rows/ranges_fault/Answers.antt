@@ -1,4 +1,4 @@
-use Rattle.std.proofs.Common.{◌≡◌, ◌+◌, Some, None, sym, ◌∙◌, ap, arith, take, drop}
+use Rattle.std.proofs.Common.{◌≡◌, ◌+◌, sym, ◌∙◌, arith, take, drop}
 use Rattle.std.specs.Prelude.{slice_index_or}
 use Rattle.enc_front.specs.declared.tables.IndexKind.TheVariants.{Gb18030Ranges}
 use Rattle.enc_front.specs.Tables.{row_why}

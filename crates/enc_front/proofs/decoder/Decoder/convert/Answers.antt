@@ -4,7 +4,8 @@ use Rattle.std.proofs.lemmas.List.Elements.{All-from_get_or}
 use Rattle.enc_drivers.specs.Units.{AreBytes}
 use Rattle.enc_front.specs.Variant.{standing_in}
 use Rattle.enc_front.proofs.UnitLaws.{decoder_code}
-use Rattle.enc_front.proofs.CallLemmas.{bytes_held, short_written, converted_at, resumes_more, resumes_before, written_more, held_length}
+use Rattle.enc_front.proofs.AheadLemmas.{needs_at, needs_behind, needs_fewer}
+use Rattle.enc_front.proofs.CallLemmas.{bytes_held, bytes_behind, short_written, converted_at, resumes_more, resumes_before, written_more, held_length}
 use Rattle.enc_front.proofs.decoder.Decoder.convert.Goals as goal
 
 pub returns-in_default : goal.returns-in_default
@@ -17,6 +18,8 @@ returns-in_default c =
       written = call.written;
       len = call.len;
       short = omega (arith, call.short);
+      behind = omega (arith, call.behind);
+      read_ahead = λ some. absurd (omega (arith, some));
       input_empty = λ e. absurd (c.in_default.not-InputEmpty e);
       output_full = call.output_full;
       pending = λ e. let some = call.pending e in omega arith;
@@ -68,6 +71,35 @@ returns-clause-short c =
       held_length start (standing_in c.decode_to_utf8_raw-result.new.self).held replay first.started,
       ap length (first.all c.in-InputEmpty.is),
     )
+
+pub returns-clause-behind : goal.returns-clause-behind
+returns-clause-behind c =
+    let first = c.give_replay-result.ensures in
+    let call = c.decode_to_utf8_raw-result.ensures in
+    let replay = c.give_replay-result.new.self.replay.now in
+    let start = c.give_replay-result.new.self.start in
+    let are : AreBytes c.args.src.now = All-from_get_or (λ b. b < 256) c.args.src.now 0 (λ i h. omega (arith, c.type_inv.src i)) in
+    omega (
+      arith,
+      first.behind,
+      bytes_behind _ _ _ _ _ _ c.give_replay-result.new.self.bytes are call.read (decoder_code c.give_replay-result.new.self) call.resumes,
+      held_length start (standing_in c.give_replay-result.new.self.variant).held replay first.started,
+      held_length start (standing_in c.decode_to_utf8_raw-result.new.self).held replay first.started,
+      ap length (first.all c.in-InputEmpty.is),
+    )
+
+pub returns-clause-read_ahead : goal.returns-clause-read_ahead
+returns-clause-read_ahead c some held =
+    let first = c.give_replay-result.ensures in
+    let call = c.decode_to_utf8_raw-result.ensures in
+    let none = first.all c.in-InputEmpty.is in
+    let are : AreBytes c.args.src.now = All-from_get_or (λ b. b < 256) c.args.src.now 0 (λ i h. omega (arith, c.type_inv.src i)) in
+    let same = held_length c.give_replay-result.new.self.start (standing_in c.decode_to_utf8_raw-result.new.self).held c.give_replay-result.new.self.replay.now first.started in
+    needs_behind
+    (resumes_before _ _ _ _ _ _ are (rw c.in-InputEmpty.is at first.resumes))
+    some
+    (omega arith)
+    (needs_fewer (needs_at first.started c.give_replay-result.new.self.same_code none (call.read_ahead some (omega (arith, held, same, ap length none)))) refl (omega (arith, same, ap length none)))
 
 pub returns-clause-pending : goal.returns-clause-pending
 returns-clause-pending c e =

@@ -1,10 +1,11 @@
-use Rattle.std.proofs.Common.{length, length-drop, ap, sym, ◌∙◌, arith, rules}
+use Rattle.std.proofs.Common.{◌+◌, length, length-drop, ap, sym, ◌∙◌, arith, rules}
 use Rattle.std.specs.Prelude.{◌&&◌}
 use Rattle.std.proofs.lemmas.List.{take_rest}
 use Rattle.enc_front.specs.DecoderCalls.{is_input_empty}
+use Rattle.enc_front.specs.DecoderView.{standing_of}
 use Rattle.enc_front.specs.Lemmas.Held.{few_held}
 use Rattle.enc_front.proofs.CallLemmas.{written_more}
-use Rattle.enc_front.proofs.ReplaceLemmas.{replaces_nothing, replaces_more, replaces_text, and_false}
+use Rattle.enc_front.proofs.ReplaceLemmas.{replaces_nothing, replaces_more, replaces_text, and_false, not_full}
 use Rattle.enc_front.proofs.decoder.Decoder.decode_to_utf8.Goals as goal
 
 pub loop-init : goal.loop-init
@@ -47,6 +48,7 @@ returns-in-InputEmpty c =
       short = omega (arith, so_far.short, call.short);
       input_empty = λ e. let all = call.input_empty c.in-InputEmpty.is in (omega (arith, so_far.read, all.0, rest), all.1, all.2);
       output_full = λ e. cc e;
+      enough = λ wide e. cc e;
       pending = λ e. cc e;
       owed = λ o. cc (sym o ∙ (call.input_empty c.in-InputEmpty.is).1);
       goes_on = λ wide none. let all = call.input_empty c.in-InputEmpty.is in omega (arith, so_far.read, all.0, rest);
@@ -70,6 +72,8 @@ returns-in-OutputFull c =
       short = omega (arith, so_far.short, call.short);
       input_empty = λ e. cc e;
       output_full = λ e. search rules;
+      enough = λ wide e. not_full (standing_of c.args.self.now) (standing_of c.turn-result.new.self) c.args.src.now _ (c.loop.read + c.turn-result.result.1) (c.loop.written + c.turn-result.result.2)
+          wide (few_held c.args.self.now) (omega (arith, so_far.read, call.read, rest)) (omega (arith, so_far.short, call.short)) (search rules);
       pending = λ e. let some = call.pending c.in-OutputFull.is in omega (arith, so_far.read, call.read, rest, some);
       owed = λ o. search rules;
       goes_on = λ wide none. search rules;

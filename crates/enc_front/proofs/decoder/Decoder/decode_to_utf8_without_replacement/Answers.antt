@@ -1,11 +1,16 @@
-use Rattle.std.proofs.Common.{◌≡◌, ◌-◌, length, take, drop, length-drop, ap, sym, refl, ◌∙◌, arith, true, ◌&&◌}
+use Rattle.std.proofs.Common.{◌≡◌, ◌-◌, length, take, drop, length-drop, ap, sym, refl, ◌∙◌, arith, true, ◌&&◌, ℕ, ◌≤◌, inl, inr}
+use Rattle.std.proofs.Math.Nat.{eq-or-lt_of_le}
 use Rattle.std.proofs.lemmas.List.{take_rest}
 use Rattle.enc_front.specs.DecoderCalls.{is_input_empty}
 use Rattle.enc_front.specs.Lemmas.Held.{few_held}
+use Rattle.enc_front.proofs.AheadLemmas.{needs_behind, needs_fewer}
 use Rattle.enc_front.proofs.CallLemmas.{none_written, resumes_more}
 use Rattle.enc_front.proofs.StartLemmas.{may_hold_start, all_read, not_last}
 use Rattle.enc_front.proofs.decoder.Decoder.decode_to_utf8_without_replacement.Goals as goal
 use Rattle.enc_front.proofs.decoder.Decoder.decode_to_utf8_without_replacement.Goals.{then-last, else-last}
+
+some_or_none : (n : ℕ) → 0 ≤ n
+some_or_none n = omega arith
 
 pub returns-in_default : goal.returns-in_default
 returns-in_default c =
@@ -24,6 +29,7 @@ returns-in_default c =
       output_full = λ e. cc e;
       pending = λ e. cc e;
       malformed = λ n k e. cc e;
+      read_ahead = λ some held. needs_fewer (look.read_ahead some held) refl (omega arith);
       end = look.same_end.same_finished ∙ (c.requires.unfinished ∙ sym (ap (λ b. b && true) more));
       nothing_owed = look.same_end.same_owes ∙ c.requires.nothing_owed;
     }
@@ -47,6 +53,10 @@ returns c =
       output_full = call.output_full;
       pending = λ e. let some = call.pending e in omega (arith, some, look.read, call.read, length_rest);
       malformed = call.malformed;
+      read_ahead = λ some held. elim (eq-or-lt_of_le (some_or_none c.convert-result.result.1)) [
+        | inl none ↦ needs_fewer (look.read_ahead (omega (arith, some, none)) (omega (arith, held, call.behind, none))) (omega (arith, none)) (omega (arith, call.behind, none))
+        | inr more ↦ needs_behind (none_written _ _ _ _ _ look.resumes) more refl (rw rest at call.read_ahead more held)
+      ];
       end = elim c.if-last.branch [
         | then-last w ↦ w.self-is ∙ (w.is_input_empty-self.ensures ∙ ap (λ b. b && is_input_empty c.convert-result.result.0) (sym w.if-last.true))
         | else-last w ↦ w.self-is ∙ (w.if-last.false ∙ ap (λ b. b && is_input_empty c.convert-result.result.0) (sym w.if-last.false))

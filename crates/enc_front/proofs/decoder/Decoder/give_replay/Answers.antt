@@ -1,10 +1,10 @@
 use Rattle.std.proofs.Common.{◌<◌, ◌-◌, length, take, drop, ap, sym, ◌∙◌, arith, length-drop}
 use Rattle.std.proofs.lemmas.List.{take_rest, length-take-le}
 use Rattle.std.proofs.lemmas.List.Elements.{All-drop}
-use Rattle.enc_drivers.specs.Resume.{malformed_of}
+use Rattle.enc_drivers.specs.Resume.{malformed_of, unit_bytes}
 use Rattle.enc_front.specs.Variant.{standing_in}
 use Rattle.enc_front.proofs.UnitLaws.{decoder_code}
-use Rattle.enc_front.proofs.CallLemmas.{bytes_held, length_held, short_written, nothing_replayed, replayed_at, same_malformed, with_more_full, held_length}
+use Rattle.enc_front.proofs.CallLemmas.{bytes_held, bytes_behind, length_held, short_written, nothing_replayed, replayed_at, same_malformed, with_more_full, held_length}
 use Rattle.enc_front.proofs.decoder.Decoder.give_replay.Goals as goal
 
 pub returns-then-is_empty-clause-resumes : goal.returns-then-is_empty-clause-resumes
@@ -43,6 +43,22 @@ returns-clause-short c =
       same,
       written,
       short,
+      held_length c.args.self.now.start (standing_in c.args.self.now.variant).held replay c.requires,
+      held_length c.args.self.now.start (standing_in c.decode_to_utf8_raw-result.new.self).held (take (length replay - n) (drop n replay)) c.requires,
+      ap length (take_rest replay n),
+      length-drop n replay,
+    )
+
+pub returns-clause-behind : goal.returns-clause-behind
+returns-clause-behind c =
+    let call = c.decode_to_utf8_raw-result.ensures in
+    let replay = c.args.self.now.replay.now in
+    let n = c.decode_to_utf8_raw-result.result.1 in
+    let same = ap (λ r. unit_bytes (malformed_of r)) c.with_more.ensures ∙ ap unit_bytes (same_malformed _ _) in
+    omega (
+      arith,
+      same,
+      bytes_behind _ _ _ _ _ _ c.args.self.now.bytes c.args.self.now.replay_bytes call.read (decoder_code c.args.self.now) call.resumes,
       held_length c.args.self.now.start (standing_in c.args.self.now.variant).held replay c.requires,
       held_length c.args.self.now.start (standing_in c.decode_to_utf8_raw-result.new.self).held (take (length replay - n) (drop n replay)) c.requires,
       ap length (take_rest replay n),

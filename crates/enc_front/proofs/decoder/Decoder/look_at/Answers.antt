@@ -1,7 +1,11 @@
 use Rattle.std.proofs.Common.{◌∷◌, length, ap, sym, ◌∙◌, arith}
 use Rattle.enc_front.specs.Decoder.{DecoderPlace, to_come, encoding_to_come}
+use Rattle.enc_front.proofs.AheadLemmas.{open_start}
 use Rattle.enc_front.proofs.StartLemmas.{mark_to_come, mark_encoding, other_to_come, other_encoding}
 use Rattle.enc_front.proofs.decoder.Decoder.look_at.Goals as goal
+
+pub returns-in-Part-clause-open_before : goal.returns-in-Part-clause-open_before
+returns-in-Part-clause-open_before c e = open_start _ _ _ _ _ c.in_default.not-Over
 
 pub returns-in-Mark : goal.returns-in-Mark
 returns-in-Mark c =
@@ -9,6 +13,7 @@ returns-in-Mark c =
     let begun = c.begin.ensures in
     record {
       taken = λ e more. mark_to_come _ _ _ _ _ _ _ c.in_default.not-Over look more ∙ sym (ap (λ (s : DecoderPlace). to_come s more) begun.place);
+      open_before = λ e. open_start _ _ _ _ _ c.in_default.not-Over;
       taken_encoding = λ e more. mark_encoding _ _ _ _ _ c.in_default.not-Over look more ∙ sym (ap (λ (s : DecoderPlace). encoding_to_come s more) begun.place);
       held = λ e. omega (arith, ap (λ (s : DecoderPlace). length s.held) begun.place);
       refused = λ e. cc e;
@@ -25,6 +30,7 @@ returns-in-Other c =
     let ended = c.end_start.ensures in
     record {
       taken = λ e. cc e;
+      open_before = λ e. cc e;
       taken_encoding = λ e. cc e;
       held = λ e. cc e;
       refused = λ e. ap (λ (s : DecoderPlace). s.marks) ended.place;

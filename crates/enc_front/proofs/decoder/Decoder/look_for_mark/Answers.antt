@@ -1,4 +1,5 @@
-use Rattle.std.proofs.Common.{◌≡◌, ◌++◌, [], drop, ap, sym, ◌∙◌, arith, length-drop}
+use Rattle.std.proofs.Common.{rules, true, suc, ℕ, List, ◌∷◌, get_or, ◌+◌, ◌-◌, ◌≡◌, ◌++◌, [], drop, ap, sym, ◌∙◌, arith, length-drop}
+use Rattle.std.proofs.Math.Seq.{drop-cons}
 use Rattle.std.proofs.lemmas.List.{nil_from_length}
 use Rattle.std.proofs.lemmas.List.Elements.{All-nil}
 use Rattle.enc_front.specs.Decoder.{DecoderPlace, to_come, encoding_to_come}
@@ -6,6 +7,39 @@ use Rattle.enc_front.specs.DecoderView.{place_of}
 use Rattle.enc_front.specs.Variant.{standing_in}
 use Rattle.enc_front.proofs.StartLemmas.{end_to_come, end_encoding, nothing_follows}
 use Rattle.enc_front.proofs.decoder.Decoder.look_for_mark.Goals as goal
+
+pub loop-byte-preserved : goal.loop-byte-preserved
+loop-byte-preserved c =
+    let so_far = c.loop-byte.invariant in
+    let look = c.look_at.ensures in
+    let front = place_of c.loop-byte.self in
+    let src = c.args.src.now in
+    let taken : c.look_at.result ≡ true = cc in
+    let i = c.loop-byte.byte-index in
+    let cut : drop i src ≡ get_or src i 0 ∷ drop (i + 1) src =
+    let next : suc i ≡ i + 1 = omega arith in
+    drop-cons src i 0 (omega arith) ∙ ap (λ k. get_or src i 0 ∷ drop k src) next in
+    let behind : c.loop-byte.byte-index ≡ c.loop-byte.read + 1 - 1 = omega (arith, so_far.count) in
+    record {
+      count = search rules;
+      same = λ more. so_far.same more ∙ (ap (λ (l : List ℕ). to_come front (l ++ more)) cut ∙ look.taken taken (drop (i + 1) src ++ more));
+      same_encoding = λ more. so_far.same_encoding more ∙ (ap (λ (l : List ℕ). encoding_to_come front (l ++ more)) cut ∙ look.taken_encoding taken (drop (i + 1) src ++ more));
+      same_indexes = search rules;
+      held = omega (arith, so_far.held, look.held taken);
+      needs = λ some held. record {
+        front = front;
+        decoded = [];
+        resumes = record {
+          well_formed = All-nil _;
+          equation = λ more follows. so_far.same more ∙ ap (λ k. to_come front (drop k src ++ more)) behind;
+          same_encoding = λ more follows. so_far.same_encoding more ∙ ap (λ k. encoding_to_come front (drop k src ++ more)) behind;
+          same_indexes = so_far.same_indexes;
+        };
+        undecided = look.open_before taken;
+        covers = look.held taken;
+      };
+      same_end = search rules;
+    }
 
 pub returns-then-last-clause-resumes : goal.returns-then-last-clause-resumes
 returns-then-last-clause-resumes c =

@@ -1,7 +1,6 @@
-use Rattle.std.proofs.Common.{◌≡◌, ◌∷◌, Bool, None, IfOk, IfErr, sym, subst, if◌then◌else◌}
+use Rattle.std.proofs.Common.{◌≡◌, Bool, None, IfOk, IfErr, sym, subst, if◌then◌else◌}
 use Rattle.std.specs.Option.{option_map}
 use Rattle.enc_front.specs.declared.tables.IndexKind.{IndexKind}
-use Rattle.enc_front.specs.declared.tables.IndexKind.TheVariants.{Gb18030Ranges}
 use Rattle.enc_front.specs.Indexes.{IsMemoryOr, of_entry, row_error}
 use Rattle.enc_front.specs.Ranges.{range_places}
 use Rattle.enc_front.specs.Tables.{pair_places, places_of, row_fault}

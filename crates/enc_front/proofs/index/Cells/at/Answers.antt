@@ -1,7 +1,7 @@
 use Rattle.std.proofs.Common.{◌∙◌, ap, sym}
 use Rattle.enc_front.specs.Cells.{cell_places}
 use Rattle.enc_front.proofs.IndexLemmas.{cell_at, no_cell_at}
-use Rattle.enc_front.proofs.index.IndexLookup.at.Goals as goal
+use Rattle.enc_front.proofs.index.Cells.at.Goals as goal
 
 pub returns-in_err-cell : goal.returns-in_err-cell
 returns-in_err-cell c =

@@ -1,7 +1,7 @@
 use Rattle.std.proofs.Common.{ap, ◌∙◌, refl}
 use Rattle.enc_front.specs.Cells.{cell_places}
 use Rattle.enc_front.proofs.IndexLemmas.{none_at}
-use Rattle.enc_front.proofs.index.Index.empty.Goals as goal
+use Rattle.enc_front.proofs.index.Cells.empty.Goals as goal
 
 pub returns-clause-none : goal.returns-clause-none
 returns-clause-none c place =
