@@ -1,3 +1,4 @@
+pub mod BoundLemmas
 pub mod ChoiceLemmas
 pub mod JoinedLemmas
 pub mod Moves

@@ -11,6 +11,8 @@ use crate::outside::Source;
 use crate::reader::DecodeReaderBytes;
 use enc_front::{Encoding, Tables};
 use std::alloc::{AllocError, Global};
+use std::error::Error;
+use std::fmt;
 
 // The length of a buffer that is made here.
 const BUFFER: usize = 8192;
@@ -25,6 +27,23 @@ pub enum BuildError {
     /// Want of memory.
     Memory,
 }
+
+impl fmt::Display for BuildError {
+    fn fmt<W: fmt::Write>(&self, f: &mut fmt::Formatter<W>) -> fmt::Result {
+        match self {
+            BuildError::NoTable(encoding) => {
+                let name = encoding.name();
+                write!(f, "the encoding {name} has no index")
+            }
+            BuildError::TooSmall(len) => {
+                write!(f, "the buffer has {len} bytes, and at least 4 are needed")
+            }
+            BuildError::Memory => write!(f, "no memory"),
+        }
+    }
+}
+
+impl Error for BuildError {}
 
 /// How a [`DecodeReaderBytes`] is to read. As made: no encoding is named, byte order marks are looked
 /// for, and the source may give 999,999,999 bytes.

@@ -5,9 +5,20 @@ ghost use Rattle.std.specs.Io.{ReadsAtMost};
 ghost use Rattle.std.specs.Io.KnownBytes.{ReadConsumes};
 ghost use Rattle.enc_io.specs.Faults.{Rose, count_after};
 
+use std::error::Error;
+use std::fmt;
+
 /// A call on the outside failed.
 #[derive(Clone, Copy, Debug, PartialEq, Eq)]
 pub struct Failed;
+
+impl fmt::Display for Failed {
+    fn fmt<W: fmt::Write>(&self, f: &mut fmt::Formatter<W>) -> fmt::Result {
+        write!(f, "a call on a device failed")
+    }
+}
+
+impl Error for Failed {}
 
 /// Where bytes come from.
 ///

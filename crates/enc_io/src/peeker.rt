@@ -3,6 +3,7 @@ ghost use Rattle.std.specs.Prelude.{◌≡◌, ℕ, ◌+◌, ◌<◌, ◌≤◌,
 ghost use Rattle.std.specs.Option.{ForSome};
 ghost use Rattle.std.specs.Io.{ReadsAtMost};
 ghost use Rattle.std.specs.Io.KnownBytes.{Consumes, Keeps, IsAtEnd, ReadConsumes};
+ghost use Rattle.enc_drivers.specs.Units.{AreBytes};
 ghost use Rattle.enc_io.specs.Faults.{Rose};
 ghost use Rattle.enc_io.specs.Peeker.{PeekerMoves, Gathers, GivesNext, HasGivenAll, fresh, still_known, given_by, given_within, count_by, taken_by};
 
@@ -244,6 +245,7 @@ impl<S: Source> BomPeeker<S> {
         requires most { 0 < most }
         ensures within { IfOk result (λ n. n.0 ≤ length buf.new) }
         ensures len { length buf.new ≡ length buf.old }
+        ensures are_bytes { AreBytes buf.new }
         ensures next { GivesNext (S.left (source_of self.old)) (S.left (source_of self.new)) (standing_of self.old) (standing_of self.new) (given_within result buf.new) (taken_by result) }
         ensures most { IfOk result (λ n. (n.1 ≤ most) × (n.1 ≤ n.0)) }
         ensures all { IfOk result (λ n. n.0 ≡ 0 → HasGivenAll (standing_of self.new)) }

@@ -26,6 +26,8 @@ use crate::peeker::BomPeeker;
 use crate::tiny::TinyTranscoder;
 use enc_front::{Decoder, Tables};
 use std::alloc::Global;
+use std::error::Error;
+use std::fmt;
 
 /// Why a [`DecodeReaderBytes`] gave nothing.
 #[derive(Clone, Copy, Debug, PartialEq, Eq)]
@@ -35,6 +37,17 @@ pub enum ReadError {
     /// The source gave more bytes than the limit. Each later read answers this too.
     TooMuch,
 }
+
+impl fmt::Display for ReadError {
+    fn fmt<W: fmt::Write>(&self, f: &mut fmt::Formatter<W>) -> fmt::Result {
+        match self {
+            ReadError::ReadFault => write!(f, "a read of the source failed"),
+            ReadError::TooMuch => write!(f, "the source gave more bytes than the limit"),
+        }
+    }
+}
+
+impl Error for ReadError {}
 
 /// A reader of the text of a stream, as UTF-8: of the bytes that a source gives, by the encoding that the builder and a byte
 /// order mark at the front choose, with U+FFFD for each malformed unit; or of the bytes as they are, where none is chosen.
@@ -53,6 +66,7 @@ pub struct DecodeReaderBytes<'t, S: Source> {
     ghost pos_within: { pos ≤ buflen },
     ghost buf_within: { buflen ≤ length buf.items },
     ghost room: { 4 ≤ length buf.items },
+    ghost are_bytes: { AreBytes (take buflen buf.items) },
     ghost at_most: { taken ≤ options.limit + 1 },
     ghost same_strips: { rdr.strips ≡ options.strip_bom },
     ghost named: { ForSome options.encoding (λ e. IsTrue (known e (indexes_of tables.now))) },
@@ -156,6 +170,8 @@ impl<'t, S: Source> DecodeReaderBytes<'t, S> {
         ensures does { 0 < length buf.old → Does (standing_of self.old) (standing_of self.new) (given_by result buf.new) result }
         ensures end { 0 < length buf.old → result ≡ Ok 0 → HasGivenText (standing_of self.new) }
         ensures left { has_seen_end (standing_of self.new) ≡ true → IsAtEnd (S.left (source_of self.new)) }
+        ensures small { length (still (standing_of self.new) [])
+            ≤ 3 * ((standing_of self.new).buffer + 10) }
         ensures latched { 0 < length buf.old → HasTooMuch (standing_of self.old) → (result ≡ Err ReadError.TooMuch) × (standing_of self.new ≡ standing_of self.old) }
         ensures no_room { length buf.old ≡ 0 → (result ≡ Ok 0) × (source_of self.new ≡ source_of self.old) × (standing_of self.new ≡ standing_of self.old) }
     {
