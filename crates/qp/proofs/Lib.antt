@@ -2,6 +2,7 @@ pub mod Feeds
 pub mod InRows
 pub mod Inverse
 pub mod ItemLemmas
+pub mod LaneLemmas
 pub mod LawLemmas
 pub mod Readback
 pub mod Reading

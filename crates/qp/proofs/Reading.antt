@@ -1,10 +1,12 @@
 -- Lemmas on the text, the lines and the parts of quoted-printable input.
-use Rattle.std.proofs.Common.{◌≡◌, ℕ, ◌+◌, ◌-◌, ◌<◌, ◌≤◌, get_or, drop, Bool, true, false, cond, not, ◌||◌, eqb, List, [], ◌∷◌, ◌++◌, length, take, refl, ap, sym, ◌∙◌, arith}
+use Rattle.std.proofs.Common.{◌≡◌, ℕ, ◌+◌, ◌-◌, ◌<◌, ◌≤◌, get_or, drop, Bool, true, false, cond, not, ◌||◌, ◌&&◌, eqb, List, [], ◌∷◌, ◌++◌, length, take, refl, ap, ap₂, sym, ◌∙◌, arith}
 use Rattle.std.specs.List.{suffix_len, slice_split, list_all, All}
 use Rattle.std.proofs.lemmas.List.{append_assoc, take-append-drop, drop_more, drop_all, take-append-le, take_all, length_push, append-nil, reverse-append}
 use Rattle.std.proofs.lemmas.List.Elements.{filter-append, All-filter}
-use Rattle.std.proofs.lemmas.Bool.{and_parts, not-true}
+use Rattle.std.proofs.lemmas.Bool.{and_parts, eqb-true, not-true}
 use Rattle.std.proofs.lemmas.List.Splits.{slice_split_none, slice_split_at, length-slice_split}
+use Rattle.std.proofs.lemmas.Bool.Decides.{nat_tests}
+use Rattle.qp.specs.Items.{may_stand_within}
 use Rattle.qp.specs.Text.{is_text_octet, is_line_padding, kept, trimmed, lines}
 use Rattle.qp.specs.Line.{Part, literal, escape, cut_escape, soft_break, is_literal, parts, values, ends_soft, part_value, is_soft_break, escape_value, line_value}
 use Rattle.qp.specs.Robust.{joined, line_end, robust}
@@ -153,6 +155,29 @@ value_after_run out total text front rest h t e =
 pub soft_after_run : (text front rest : List ℕ) → list_all is_literal front ≡ true → text ≡ front ++ rest → ends_soft (parts rest) ≡ ends_soft (parts text)
 soft_after_run text front rest h t = sym (ap (λ t. ends_soft (parts t)) t ∙ soft_run front rest h)
 
+literal_front : (front : List ℕ) → list_all may_stand_within front ≡ true → list_all is_literal front ≡ true
+literal_front [] h = refl
+literal_front (b ∷ front) h =
+    let here = and_parts (may_stand_within b) (list_all may_stand_within front) h in
+    ap₂ (λ x y. x && y) (literal b here.0) (literal_front front here.1)
+  where
+    literal : (b : ℕ) → may_stand_within b ≡ true → is_literal b ≡ true
+    literal b h = grind (arith, nat_tests)
+
+-- One turn over a run of octets that stand for themselves: `text` is what is left of the line.
+pub kept_front : (run : ℕ) (text : List ℕ) → list_all may_stand_within (take run text) ≡ true → kept text ≡ take run text ++ kept (drop run text)
+kept_front run text h = kept_run run text (literal_front (take run text) h)
+
+pub value_after_front : (out total text : List ℕ) (run : ℕ) → list_all may_stand_within (take run text) ≡ true → out ++ values (parts (kept text)) ≡ total → (out ++ take run text) ++ values (parts (kept (drop run text))) ≡ total
+value_after_front out total text run h e = value_after_run out total (kept text) (take run text) (kept (drop run text)) (literal_front (take run text) h) (kept_front run text h) e
+
+pub soft_after_front : (text : List ℕ) (run : ℕ) → list_all may_stand_within (take run text) ≡ true → ends_soft (parts (kept (drop run text))) ≡ ends_soft (parts (kept text))
+soft_after_front text run h = soft_after_run (kept text) (take run text) (kept (drop run text)) (literal_front (take run text) h) (kept_front run text h)
+
+-- the same, where nothing is dropped
+pub soft_behind : (text : List ℕ) (run : ℕ) → list_all may_stand_within (take run text) ≡ true → ends_soft (parts (drop run text)) ≡ ends_soft (parts text)
+soft_behind text run h = soft_after_run text (take run text) (drop run text) (literal_front (take run text) h) (sym (take-append-drop run text))
+
 pub parts_at_escape : (text second third rest : List ℕ) (b u v : ℕ) → eqb b 61 ≡ true → text ≡ b ∷ second → second ≡ u ∷ third → third ≡ v ∷ rest → parts text ≡ escape u v ∷ parts rest
 parts_at_escape text second third rest b u v h e f g = rw (e, f, g) (parts_escape b u v rest h)
 
@@ -164,6 +189,20 @@ value_after_escape out total text rest u v t e =
 
 pub soft_after_escape : (text rest : List ℕ) (u v : ℕ) → parts text ≡ escape u v ∷ parts rest → ends_soft (parts rest) ≡ ends_soft (parts text)
 soft_after_escape text rest u v t = sym (ap ends_soft t ∙ ends_soft-cons (escape u v) (parts rest))
+
+-- an escape of two octets that may stand in text
+pub kept_escape : (text : List ℕ) → 3 ≤ length text → eqb (get_or text 0 0) 61 ≡ true → is_text_octet (get_or text 1 0) ≡ true → is_text_octet (get_or text 2 0) ≡ true
+    → parts (kept text) ≡ escape (get_or text 1 0) (get_or text 2 0) ∷ parts (kept (drop 3 text))
+kept_escape [] h e f g = absurd (omega arith)
+kept_escape (b ∷ []) h e f g = absurd (omega arith)
+kept_escape (b ∷ u ∷ []) h e f g = absurd (omega arith)
+kept_escape (b ∷ u ∷ v ∷ rest) h e f g =
+    let sign : is_text_octet b ≡ true = ap is_text_octet (eqb-true b 61 e) in
+    let all = kept_yes b (u ∷ v ∷ rest) sign ∙ ap (λ k. b ∷ k) (kept_yes u (v ∷ rest) f ∙ ap (λ k. u ∷ k) (kept_yes v rest g)) in
+    ap parts all ∙ parts_escape b u v (kept rest) e
+
+pub value_of_escape : (text rest : List ℕ) (u v octet : ℕ) → parts text ≡ escape u v ∷ parts rest → escape_value u v ≡ octet ∷ [] → values (parts text) ≡ octet ∷ values (parts rest)
+value_of_escape text rest u v octet e is = ap values e ∙ values-cons (escape u v) (parts rest) ∙ ap (λ o. o ++ values (parts rest)) is
 
 pub parts_at_cut : (text second third : List ℕ) (b u : ℕ) → eqb b 61 ≡ true → text ≡ b ∷ second → second ≡ u ∷ third → third ≡ [] → parts text ≡ cut_escape u ∷ []
 parts_at_cut text second third b u h e f g = rw (e, f, g) (parts_cut_escape b u h)

@@ -1,13 +1,14 @@
 -- Lemmas on the faults of a text, one octet and one line after another.
-use Rattle.std.proofs.Common.{◌≡◌, ℕ, ◌<◌, Bool, true, false, cond, not, ◌||◌, ◌&&◌, eqb, inl, inr, Option, Some, None, List, [], ◌∷◌, ◌++◌, length, drop, refl, ap, sym, ◌∙◌, arith}
-use Rattle.std.specs.List.{list_any, All}
+use Rattle.std.proofs.Common.{◌≡◌, ℕ, zero, suc, ◌<◌, Bool, true, false, cond, not, ◌||◌, ◌&&◌, eqb, inl, inr, Option, Some, None, List, [], ◌∷◌, ◌++◌, length, take, drop, refl, ap, sym, ◌∙◌, arith}
+use Rattle.std.specs.List.{list_all, list_any, All}
 use Rattle.std.proofs.lemmas.Bool.{false≢true, and_parts, or_parts, and_cases, eqb-true, ne_eqb, not-true, not-false, or_right}
 use Rattle.std.proofs.lemmas.List.Splits.{slice_split_none, slice_split_at, length-slice_split}
 use Rattle.qp.specs.declared.QuotedPrintableError.{QuotedPrintableError}
 use Rattle.qp.specs.declared.QuotedPrintableError.TheVariants.{IncompleteHexOctet}
 use Rattle.qp.specs.Text.{is_text_octet, trimmed, lines}
 use Rattle.qp.specs.Line.{escape, cut_escape, soft_break, parts, ends_soft, is_soft}
-use Rattle.qp.specs.Items.{begins_break}
+use Rattle.std.proofs.lemmas.Bool.Decides.{nat_tests}
+use Rattle.qp.specs.Items.{begins_break, may_stand_within}
 use Rattle.qp.specs.Strict.{or_fault, first_fault, part_fault, line_fault, lines_fault, last_line, without_empty_end, ends_open, has_invalid_byte, pairs_only}
 use Rattle.qp.proofs.Reading.{parts_literal}
 
@@ -49,6 +50,14 @@ invalid-later b text rest e s =
     let both = and_parts (is_text_octet b) (not (eqb b 13 || eqb b 10)) s in
     let alone = or_parts (eqb b 13) (eqb b 10) (not-true (eqb b 13 || eqb b 10) both.1) in
     ap has_invalid_byte e ∙ rw (both.0, pairs-alone b rest alone.0 alone.1) refl
+
+-- a run of octets that may stand outside a line break
+pub invalid-run : (run : ℕ) (text : List ℕ) → list_all (λ b. is_text_octet b && not (eqb b 13 || eqb b 10)) (take run text) ≡ true → has_invalid_byte (drop run text) ≡ has_invalid_byte text
+invalid-run zero text h = refl
+invalid-run (suc run) [] h = refl
+invalid-run (suc run) (b ∷ text) h =
+    let here = and_parts (is_text_octet b && not (eqb b 13 || eqb b 10)) (list_all (λ b. is_text_octet b && not (eqb b 13 || eqb b 10)) (take run text)) h in
+    invalid-run run text here.1 ∙ sym (invalid-later b (b ∷ text) text refl here.0)
 
 -- The lines of a text.
 without-more : (line : List ℕ) (rest : List (List ℕ)) → 0 < length rest → without_empty_end (line ∷ rest) ≡ line ∷ without_empty_end rest
@@ -137,6 +146,17 @@ fault-here limit hard soft line ls rest fault e some = rw (e, some) refl
 pub part-literal : (b : ℕ) (text rest : List ℕ) → text ≡ b ∷ rest → eqb b 61 ≡ false → first_fault part_fault (parts text) ≡ first_fault part_fault (parts rest)
 unfolding first_fault
 part-literal b text rest e h = ap (λ t. first_fault part_fault (parts t)) e ∙ ap (first_fault part_fault) (parts_literal b rest h)
+
+-- a run of octets that stand for themselves
+pub part-run : (run : ℕ) (text : List ℕ) → list_all may_stand_within (take run text) ≡ true → first_fault part_fault (parts (drop run text)) ≡ first_fault part_fault (parts text)
+part-run zero text h = refl
+part-run (suc run) [] h = refl
+part-run (suc run) (b ∷ text) h =
+    let here = and_parts (may_stand_within b) (list_all may_stand_within (take run text)) h in
+    part-run run text here.1 ∙ sym (part-literal b (b ∷ text) text refl (other b here.0))
+  where
+    other : (b : ℕ) → may_stand_within b ≡ true → eqb b 61 ≡ false
+    other b h = grind (arith, nat_tests)
 
 pub part-escape : (u w : ℕ) (text rest : List ℕ) → parts text ≡ escape u w ∷ parts rest → part_fault (escape u w) ≡ None → first_fault part_fault (parts text) ≡ first_fault part_fault (parts rest)
 unfolding first_fault

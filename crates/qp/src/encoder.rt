@@ -9,6 +9,7 @@ ghost use Rattle.qp.specs.Items.{plain, items, octet_item, is_blank, ends_blank,
 ghost use Rattle.qp.specs.Layout.{laid_out, laid_out_from, breaks_before, soft_break, goes_on};
 
 use super::InputMode;
+use crate::lanes::{append_front, plain_len};
 use std::alloc::{AllocError, Global};
 
 // `input` in lines of at most `limit` bytes.
@@ -44,7 +45,7 @@ fn lay_out(
     while let Some((byte, after)) = rest.split_first() {
         let run = run_len(rest, limit - used);
         if run > 0 {
-            encoded.extend_from_slice(&rest[..run])?;
+            append_front(&mut encoded, rest, run)?;
             used += run;
             rest = &rest[run..];
             continue;
@@ -78,6 +79,7 @@ fn keeps_breaks(mode: &InputMode) -> bool
 }
 
 // How many bytes stand for themselves at the front of `text`, with less than `room` bytes.
+#[inline(always)]
 fn run_len(text: &[u8], room: usize) -> usize
     ensures within { result ≤ length text.now }
     ensures room { result ≤ room - 1 }
@@ -85,7 +87,7 @@ fn run_len(text: &[u8], room: usize) -> usize
         items mode text.now ≡ map plain (take result text.now) ++ items mode (drop result text.now) }
 {
     let most = text.len().min(room.saturating_sub(1));
-    let run = find_other(text, most);
+    let run = plain_len(text, most);
     let blank = ends_blank(&text[..run]);
     let ends = ends_line(&text[run..]);
     if blank && ends {
@@ -94,28 +96,16 @@ fn run_len(text: &[u8], room: usize) -> usize
     run
 }
 
-// How many bytes may stand for themselves within a line, at the front of `text` and up to `most`.
-fn find_other(text: &[u8], most: usize) -> usize
-    requires { most ≤ length text.now }
-    ensures most { result ≤ most }
-    ensures run { list_all may_stand_within (take result text.now) ≡ true }
-{
-    for (i, byte) in text[..most].iter().enumerate() {
-        if !may_stand_within(*byte) {
-            return i;
-        }
-    }
-    most
-}
-
 // Whether a byte may stand for itself within a line.
-fn may_stand_within(byte: u8) -> bool
+#[inline(always)]
+pub fn may_stand_within(byte: u8) -> bool
     ensures { result ≡ may_stand_within byte }
 {
     matches!(byte, b'\t' | b' '..=b'<' | b'>'..=b'~')
 }
 
 // Whether a byte is a tab or a space.
+#[inline(always)]
 fn is_blank(byte: u8) -> bool
     ensures { result ≡ is_blank byte }
 {
@@ -123,6 +113,7 @@ fn is_blank(byte: u8) -> bool
 }
 
 // Whether the last byte is a tab or a space.
+#[inline(always)]
 fn ends_blank(text: &[u8]) -> bool
     ensures { result ≡ ends_blank text.now }
 {
@@ -133,6 +124,7 @@ fn ends_blank(text: &[u8]) -> bool
 }
 
 // Whether a line break of a text stands at the front, where CR LF pairs are `kept` as such.
+#[inline(always)]
 fn is_break(text: &[u8], kept: bool) -> bool
     ensures { result ≡ (kept && begins_break text.now) }
 {
@@ -140,6 +132,7 @@ fn is_break(text: &[u8], kept: bool) -> bool
 }
 
 // Whether a CR LF pair stands at the front.
+#[inline(always)]
 pub fn begins_break(text: &[u8]) -> bool
     ensures { result ≡ begins_break text.now }
 {
@@ -147,6 +140,7 @@ pub fn begins_break(text: &[u8]) -> bool
 }
 
 // Whether a line of the input ends here.
+#[inline(always)]
 fn ends_line(text: &[u8]) -> bool
     ensures { result ≡ ends_line text.now }
 {
@@ -154,6 +148,7 @@ fn ends_line(text: &[u8]) -> bool
 }
 
 // Appends one byte, and gives how many bytes its line has then.
+#[inline(always)]
 fn push_octet(
     encoded: &mut Vec<u8>,
     limit: usize,
@@ -179,6 +174,7 @@ fn push_octet(
 }
 
 // Whether a byte stands for itself, where its line of the input `ends` behind it or goes on.
+#[inline(always)]
 fn stands_for_itself(byte: u8, ends: bool) -> bool
     ensures { result ≡ (may_stand_within byte && not (is_blank byte && ends)) }
 {
@@ -186,6 +182,7 @@ fn stands_for_itself(byte: u8, ends: bool) -> bool
 }
 
 // Whether an item follows before the next line break of the text and before the end.
+#[inline(always)]
 fn goes_on(after: &[u8], text: bool) -> bool
     ensures { (mode : InputMode) → keeps_breaks mode ≡ text → goes_on (items mode after.now) ≡ result }
 {
@@ -197,6 +194,7 @@ fn goes_on(after: &[u8], text: bool) -> bool
 
 // Appends an item, with a soft line break before it where it needs one, and gives how many bytes its line
 // has then.
+#[inline(always)]
 fn push_item(
     encoded: &mut Vec<u8>,
     limit: usize,
@@ -223,6 +221,7 @@ fn push_item(
 }
 
 // `=` and the two upper-case digits of a byte.
+#[inline(always)]
 fn escape(byte: u8) -> [u8; 3]
     ensures { result ≡ 61 ∷ hex_digit (byte / 16) ∷ hex_digit (byte % 16) ∷ [] }
 {
@@ -230,6 +229,7 @@ fn escape(byte: u8) -> [u8; 3]
 }
 
 // The upper-case digit of a number below 16.
+#[inline(always)]
 fn hex_digit(value: u8) -> u8
     requires { value < 16 }
     ensures { result ≡ hex_digit value }

@@ -13,6 +13,7 @@ use std::alloc::{AllocError, Global};
 use std::fmt;
 
 mod encoder;
+mod lanes;
 pub mod laws;
 mod robust;
 mod strict;

@@ -1,26 +1,34 @@
 //! Robust decoding: nothing of the input is refused.
 
-ghost use Rattle.std.specs.Prelude.{◌≡◌, ◌+◌, ◌<◌, ◌↔◌, [], ◌∷◌, ◌++◌, ◌≤◌, true, length, take, if◌then◌else◌, not, ◌||◌, IfNone, IfSome, IfOk};
+ghost use Rattle.std.specs.Prelude.{◌≡◌, ◌+◌, ◌<◌, ◌↔◌, [], ◌∷◌, ◌++◌, ◌≤◌, true, length, take, drop, if◌then◌else◌, not, ◌||◌, IfNone, IfSome, IfOk};
 ghost use Rattle.std.specs.List.{list_all};
+ghost use Rattle.qp.specs.Items.{may_stand_within};
 ghost use Rattle.qp.specs.Text.{is_text_octet, is_line_padding, kept, trimmed};
-ghost use Rattle.qp.specs.Line.{line_value, is_soft, is_literal, escape_value};
+ghost use Rattle.qp.specs.Line.{parts, values, ends_soft, line_value, is_soft, escape_value};
 ghost use Rattle.qp.specs.Robust.{robust, line_end};
 
+use crate::encoder::may_stand_within;
+use crate::lanes::{LANES, plain_lanes};
 use memchr::memchr;
 use std::alloc::{AllocError, Global};
+use std::simd::prelude::*;
+
+// How many bytes of a line are gathered before they are appended.
+const ROOM: usize = 1024;
 
 // The bytes that `input` stands for, line by line.
 pub fn decode(alloc: Global, input: &[u8]) -> Result<Vec<u8>, AllocError>
     ensures { IfOk result (λ bytes. bytes.items ≡ robust input.now) }
 {
     let mut decoded = Vec::with_capacity(alloc, most_bytes(input))?;
+    let mut room = [0u8; ROOM];
     let mut rest = input;
     while let Some((line, after)) = split_line(rest) {
-        let soft = push_line(&mut decoded, line)?;
+        let soft = push_line(&mut decoded, &mut room, line)?;
         push_line_end(&mut decoded, soft)?;
         rest = after;
     }
-    push_line(&mut decoded, rest)?;
+    push_line(&mut decoded, &mut room, rest)?;
     Ok(decoded)
 }
 
@@ -31,6 +39,7 @@ fn most_bytes(input: &[u8]) -> usize {
 }
 
 // The first line that an LF ends, and what follows that LF.
+#[inline(always)]
 fn split_line(text: &[u8]) -> Option<(&[u8], &[u8])>
     ensures none { IfNone result (robust text.now ≡ line_value (kept text.now)) }
     ensures some { IfSome result (λ found. robust text.now
@@ -42,6 +51,7 @@ fn split_line(text: &[u8]) -> Option<(&[u8], &[u8])>
 }
 
 // Appends the CR LF of a line, unless the line ends in a soft line break.
+#[inline(always)]
 fn push_line_end(decoded: &mut Vec<u8>, soft: bool) -> Result<(), AllocError>
     ensures { IfOk result (λ _. decoded.new.items ≡ decoded.old.items ++ (if soft then [] else 13 ∷ 10 ∷ [])) }
 {
@@ -53,17 +63,16 @@ fn push_line_end(decoded: &mut Vec<u8>, soft: bool) -> Result<(), AllocError>
 }
 
 // Appends what one line stands for, without its line break, and says whether it ends in a soft one.
-fn push_line(decoded: &mut Vec<u8>, line: &[u8]) -> Result<bool, AllocError>
+#[inline(always)]
+fn push_line(decoded: &mut Vec<u8>, room: &mut [u8], line: &[u8]) -> Result<bool, AllocError>
     ensures value { IfOk result (λ _. decoded.new.items ≡ decoded.old.items ++ line_value (kept line.now)) }
     ensures soft { IfOk result (λ soft. soft ≡ is_soft (kept line.now)) }
 {
-    let mut rest = trim_end(line);
+    let mut rest = copy_front(decoded, room, trim_end(line))?;
     while let Some((byte, after)) = split_first_kept(rest) {
         if byte != b'=' {
-            let run = run_len(after);
             decoded.push(byte)?;
-            decoded.extend_from_slice(&after[..run])?;
-            rest = &after[run..];
+            rest = copy_front(decoded, room, after)?;
             continue;
         }
         let Some((high, after)) = split_first_kept(after) else {
@@ -75,12 +84,13 @@ fn push_line(decoded: &mut Vec<u8>, line: &[u8]) -> Result<bool, AllocError>
             return Ok(false);
         };
         push_escape(decoded, high, low)?;
-        rest = after;
+        rest = copy_front(decoded, room, after)?;
     }
     Ok(false)
 }
 
 // Appends what `=` and two bytes after it stand for.
+#[inline(always)]
 fn push_escape(decoded: &mut Vec<u8>, high: u8, low: u8) -> Result<(), AllocError>
     ensures { IfOk result (λ _. decoded.new.items ≡ decoded.old.items ++ escape_value high low) }
 {
@@ -98,6 +108,7 @@ fn push_escape(decoded: &mut Vec<u8>, high: u8, low: u8) -> Result<(), AllocErro
 }
 
 // `line` without what its text loses at the end.
+#[inline(always)]
 fn trim_end(line: &[u8]) -> &[u8]
     ensures { kept result.now ≡ trimmed (kept line.now) }
 {
@@ -112,6 +123,7 @@ fn trim_end(line: &[u8]) -> &[u8]
 }
 
 // The first byte of `text` that may stand in quoted-printable text, and what follows it.
+#[inline(always)]
 fn split_first_kept(text: &[u8]) -> Option<(u8, &[u8])>
     ensures none { IfNone result (kept text.now ≡ []) }
     ensures some { IfSome result (λ found. kept text.now ≡ found.0 ∷ kept found.1.now) }
@@ -125,27 +137,111 @@ fn split_first_kept(text: &[u8]) -> Option<(u8, &[u8])>
     None
 }
 
-// How many bytes at the front of `text` stand for themselves.
-fn run_len(text: &[u8]) -> usize
-    ensures within { result ≤ length text.now }
-    ensures run { list_all is_literal (take result text.now) ≡ true }
+// Appends what the front of `text` stands for, as far as `fill` reads it, and gives the rest.
+#[inline(always)]
+fn copy_front<'a>(
+    decoded: &mut Vec<u8>,
+    room: &mut [u8],
+    text: &'a [u8],
+) -> Result<&'a [u8], AllocError>
+    ensures value { IfOk result (λ rest. decoded.new.items ++ values (parts (kept rest.now))
+        ≡ decoded.old.items ++ values (parts (kept text.now))) }
+    ensures soft { IfOk result (λ rest. ends_soft (parts (kept rest.now)) ≡ ends_soft (parts (kept text.now))) }
+    ensures shorter { IfOk result (λ rest. length rest.now ≤ length text.now) }
 {
-    for (i, byte) in text.iter().enumerate() {
-        if !is_literal(*byte) {
-            return i;
-        }
-    }
-    text.len()
+    let (len, rest) = fill(room, text);
+    decoded.extend_from_slice(&room[..len])?;
+    Ok(rest)
 }
 
-// Whether a byte stands for itself within a line.
-fn is_literal(byte: u8) -> bool
-    ensures { result ≡ is_literal byte }
+// Writes what the front of `text` stands for to the front of `room`, and gives how many bytes these are,
+// and the rest: up to a byte that isn't plain and begins no escape of two digits, or until `room` is full.
+#[inline(always)]
+fn fill<'a>(room: &mut [u8], text: &'a [u8]) -> (usize, &'a [u8])
+    ensures value { take result.0 room.new ++ values (parts (kept result.1.now)) ≡ values (parts (kept text.now)) }
+    ensures soft { ends_soft (parts (kept result.1.now)) ≡ ends_soft (parts (kept text.now)) }
+    ensures within { result.0 ≤ length room.old }
+    ensures len { length room.new ≡ length room.old }
+    ensures shorter { length result.1.now ≤ length text.now }
 {
-    matches!(byte, b'\t' | b'\n' | b'\r' | b' '..=b'<' | b'>'..=b'~')
+    let mut len = 0;
+    let mut rest = text;
+    while len < room.len() {
+        if let Some(octet) = escaped_octet(rest) {
+            room[len] = octet;
+            len += 1;
+            rest = &rest[3..];
+            continue;
+        }
+        let run = put_run(room, len, rest);
+        if run == 0 {
+            return (len, rest);
+        }
+        len += run;
+        rest = &rest[run..];
+    }
+    (len, rest)
+}
+
+// Writes plain bytes at the front of `text` to `room` at `at`, and gives how many: up to sixteen at once,
+// or one. It may write over what lies behind them.
+#[inline(always)]
+fn put_run(room: &mut [u8], at: usize, text: &[u8]) -> usize
+    requires { at < length room.old }
+    ensures written { take (at + result) room.new ≡ take at room.old ++ take result text.now }
+    ensures run { list_all may_stand_within (take result text.now) ≡ true }
+    ensures within { at + result ≤ length room.old }
+    ensures few { result ≤ length text.now }
+    ensures len { length room.new ≡ length room.old }
+{
+    if text.len() >= LANES && room.len() - at >= LANES {
+        let run = plain_lanes(text, 0);
+        u8x16::from_slice(text).copy_to_slice(&mut room[at..]);
+        return run;
+    }
+    if text.is_empty() {
+        return 0;
+    }
+    let byte = text[0];
+    if !may_stand_within(byte) {
+        return 0;
+    }
+    room[at] = byte;
+    1
+}
+
+// The byte that `=` and two digits at the front of `text` say.
+#[inline(always)]
+fn escaped_octet(text: &[u8]) -> Option<u8>
+    ensures value { IfSome result (λ octet. values (parts (kept text.now)) ≡ octet ∷ values (parts (kept (drop 3 text.now)))) }
+    ensures soft { IfSome result (λ _. ends_soft (parts (kept (drop 3 text.now))) ≡ ends_soft (parts (kept text.now))) }
+    ensures long { IfSome result (λ _. 3 ≤ length text.now) }
+{
+    if text.len() < 3 || text[0] != b'=' {
+        return None;
+    }
+    let octet = two_digits(text[1], text[2])?;
+    Some(octet)
+}
+
+// The byte that two digits say.
+#[inline(always)]
+fn two_digits(high: u8, low: u8) -> Option<u8>
+    ensures value { IfSome result (λ octet. escape_value high low ≡ octet ∷ []) }
+    ensures high { IfSome result (λ _. is_text_octet high ≡ true) }
+    ensures low { IfSome result (λ _. is_text_octet low ≡ true) }
+{
+    if !is_text(high) || !is_text(low) {
+        return None;
+    }
+    match (char::from(high).to_digit(16), char::from(low).to_digit(16)) {
+        (Some(high_digit), Some(low_digit)) => Some((high_digit * 16 + low_digit) as u8),
+        _ => None,
+    }
 }
 
 // Whether a byte may stand in quoted-printable text.
+#[inline(always)]
 fn is_text(byte: u8) -> bool
     ensures { result ≡ is_text_octet byte }
 {
@@ -153,6 +249,7 @@ fn is_text(byte: u8) -> bool
 }
 
 // Whether a line loses this byte at its end: white space, or what may not stand in text at all.
+#[inline(always)]
 fn is_lost_at_end(byte: u8) -> bool
     ensures { result ≡ (not (is_text_octet byte) || is_line_padding byte) }
 {

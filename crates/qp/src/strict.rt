@@ -9,6 +9,7 @@ ghost use Rattle.qp.specs.Strict.{has_invalid_byte, first_fault, part_fault, is_
 
 use super::QuotedPrintableError;
 use crate::encoder::begins_break;
+use crate::lanes::{LANES, plain_lanes, printable_lanes};
 use memchr::memchr;
 
 // The first fault of `input`, where it has one.
@@ -26,21 +27,39 @@ pub fn find_fault(input: &[u8], limit: usize) -> Option<QuotedPrintableError>
 fn has_invalid_byte(input: &[u8]) -> bool
     ensures { result ≡ has_invalid_byte input.now }
 {
-    let mut rest = input;
+    let mut rest = skip_printable(input);
     while let Some((byte, after)) = rest.split_first() {
         if begins_break(rest) {
-            rest = &rest[2..];
+            rest = skip_printable(&rest[2..]);
             continue;
         }
         if !stands_alone(*byte) {
             return true;
         }
-        rest = after;
+        rest = skip_printable(after);
     }
     false
 }
 
+// What follows printable bytes at the front of `text`, which are looked at sixteen at a time.
+#[inline(always)]
+fn skip_printable(text: &[u8]) -> &[u8]
+    ensures same { has_invalid_byte result.now ≡ has_invalid_byte text.now }
+    ensures shorter { length result.now ≤ length text.now }
+{
+    let mut rest = text;
+    while rest.len() >= LANES {
+        let run = printable_lanes(rest, 0);
+        rest = &rest[run..];
+        if run < LANES {
+            return rest;
+        }
+    }
+    rest
+}
+
 // Whether a byte may stand in quoted-printable text outside a line break.
+#[inline(always)]
 fn stands_alone(byte: u8) -> bool
     ensures { result ≡ (is_text_octet byte && not ((byte == 13) || (byte == 10))) }
 {
@@ -68,6 +87,7 @@ fn find_line_fault(input: &[u8], limit: usize) -> Option<QuotedPrintableError>
 }
 
 // The fault of the end of the lines, of which the last is `soft`, or some `hard`.
+#[inline(always)]
 fn end_fault(soft: bool, hard: bool) -> Option<QuotedPrintableError>
     ensures { result ≡ (if soft && hard then Some QuotedPrintableError.IncompleteHexOctet else None) }
 {
@@ -78,6 +98,7 @@ fn end_fault(soft: bool, hard: bool) -> Option<QuotedPrintableError>
 }
 
 // The first line, where there is one, and what follows its LF.
+#[inline(always)]
 fn split_line(text: &[u8]) -> Option<(&[u8], &[u8])>
     ensures none { IfNone result (without_empty_end (lines text.now) ≡ []) }
     ensures some { IfSome result (λ found.
@@ -108,15 +129,16 @@ fn scan_line(line: &[u8], limit: usize) -> Result<bool, QuotedPrintableError>
 }
 
 // Whether a trimmed line ends in a soft line break, or the first fault of its escapes.
+#[inline(always)]
 fn scan_parts(text: &[u8]) -> Result<bool, QuotedPrintableError>
     ensures soft { IfOk result (λ soft. soft ≡ ends_soft (parts text.now)) }
     ensures none { IfOk result (λ _. first_fault part_fault (parts text.now) ≡ None) }
     ensures fault { IfErr result (λ fault. first_fault part_fault (parts text.now) ≡ Some fault) }
 {
-    let mut rest = text;
+    let mut rest = skip_plain(text);
     while let Some((byte, after)) = rest.split_first() {
         if *byte != b'=' {
-            rest = after;
+            rest = skip_plain(after);
             continue;
         }
         let Some((high, after)) = after.split_first() else {
@@ -127,13 +149,32 @@ fn scan_parts(text: &[u8]) -> Result<bool, QuotedPrintableError>
         };
         match escape_fault(*high, *low) {
             Some(fault) => return Err(fault),
-            None => rest = after,
+            None => rest = skip_plain(after),
         }
     }
     Ok(false)
 }
 
+// What follows bytes at the front of `text` that stand for themselves, which are looked at sixteen at a time.
+#[inline(always)]
+fn skip_plain(text: &[u8]) -> &[u8]
+    ensures soft { ends_soft (parts result.now) ≡ ends_soft (parts text.now) }
+    ensures fault { first_fault part_fault (parts result.now) ≡ first_fault part_fault (parts text.now) }
+    ensures shorter { length result.now ≤ length text.now }
+{
+    let mut rest = text;
+    while rest.len() >= LANES {
+        let run = plain_lanes(rest, 0);
+        rest = &rest[run..];
+        if run < LANES {
+            return rest;
+        }
+    }
+    rest
+}
+
 // The fault of `=` and two bytes after it, where they have one.
+#[inline(always)]
 fn escape_fault(high: u8, low: u8) -> Option<QuotedPrintableError>
     ensures { result ≡ part_fault (escape high low) }
 {
@@ -147,6 +188,7 @@ fn escape_fault(high: u8, low: u8) -> Option<QuotedPrintableError>
 }
 
 // Whether both bytes are hexadecimal digits.
+#[inline(always)]
 fn are_digits(high: u8, low: u8) -> bool
     ensures { result ≡ (is_digit high 16 && is_digit low 16) }
 {
@@ -154,6 +196,7 @@ fn are_digits(high: u8, low: u8) -> bool
 }
 
 // Whether one of two digits is a lowercase letter.
+#[inline(always)]
 fn has_lowercase(high: u8, low: u8) -> bool
     ensures { result ≡ (is_lowercase_digit high || is_lowercase_digit low) }
 {
@@ -161,6 +204,7 @@ fn has_lowercase(high: u8, low: u8) -> bool
 }
 
 // `line` without the tabs, spaces and CRs at its end.
+#[inline(always)]
 fn trim_end(line: &[u8]) -> &[u8]
     ensures { result.now ≡ trimmed line.now }
 {
@@ -175,6 +219,7 @@ fn trim_end(line: &[u8]) -> &[u8]
 }
 
 // Whether a line loses this byte at its end.
+#[inline(always)]
 fn is_line_padding(byte: u8) -> bool
     ensures { result ≡ is_line_padding byte }
 {

@@ -1,4 +1,9 @@
+mod slow;
+
+ghost use Rattle.std.specs.Prelude.{◌≤◌};
+
 use super::*;
+use slow::{slow_fault, slow_value};
 use std::test::Fail;
 
 const ROWS: [(&str, &[u8], &[u8]); 34] = [
@@ -545,6 +550,112 @@ fn encodes_as_the_slow_encoder(rt: HostRuntime) -> Result<(), Fail> {
                 let decoded = decode_with_options(rt.alloc(), encoded.as_bytes(), back)?;
                 assert_eq!(rt; decoded.as_slice(), input.as_slice());
             }
+        }
+    }
+    Ok(())
+}
+
+// Pieces of quoted-printable text that are whole, cut, faulty, blank or long.
+const PIECES: [&[u8]; 16] = [
+    b"=4D",
+    b"=\r\n",
+    b"=3d",
+    b"=m4",
+    b"=",
+    b" ",
+    b"\t",
+    b"\r\n",
+    b"\r\n",
+    b"\n",
+    b"\r",
+    b"\xc3",
+    b"a",
+    b"word",
+    b"=C3=A9",
+    b"a run of more than thirty-two letters",
+];
+
+// Pieces one after another, of which the first `kinds` come.
+fn mixed_pieces(alloc: Global, count: usize, kinds: u32, seed: u32) -> Result<Vec<u8>, AllocError> {
+    let mut text = Vec::new(alloc);
+    let mut state = seed;
+    for _ in 0..count {
+        state = state.wrapping_mul(1_664_525).wrapping_add(1_013_904_223);
+        let piece = (state >> 24) % 16;
+        if piece < kinds || piece > 11 {
+            text.extend_from_slice(PIECES[piece as usize])?;
+        }
+    }
+    Ok(text)
+}
+
+// Whether both decoders read `text` as the slow ones do.
+fn reads_as_slow(alloc: Global, text: &[u8], limit: usize) -> Result<bool, AllocError> {
+    let value = slow_value(alloc, text)?;
+    let want = match slow_fault(alloc, text, limit)? {
+        Some(fault) => Err(QpError::Quoted(fault)),
+        None => Ok(value.clone()?),
+    };
+    let options = Options::default().line_length_limit(limit);
+    let robust = decode_with_options(alloc, text, options.clone()?);
+    let strict = decode_with_options(alloc, text, options.parse_mode(ParseMode::Strict));
+    Ok(robust == Ok(value) && strict == want)
+}
+
+#[test]
+fn decodes_as_the_slow_decoders(rt: HostRuntime) -> Result<(), Fail> {
+    for seed in 0..300u32 {
+        let kinds = [2, 9, 12];
+        let text = mixed_pieces(rt.alloc(), 14, kinds[(seed % 3) as usize], seed)?;
+        for end in 0..=text.len() {
+            let cut = &text[..end.min(text.len())];
+            assert!(rt; reads_as_slow(rt.alloc(), cut, 40)?);
+        }
+    }
+    Ok(())
+}
+
+#[test]
+fn decodes_a_line_longer_than_the_room(rt: HostRuntime) -> Result<(), Fail> {
+    for len in 1000..1050usize {
+        let mut text = vec![in rt.alloc(); b'a'; len]?;
+        text.extend_from_slice(b"=4D and more =\r\nthan that\r\n")?;
+        assert!(rt; reads_as_slow(rt.alloc(), &text, 2000)?);
+        assert!(rt; reads_as_slow(rt.alloc(), &text, 1018)?);
+    }
+    Ok(())
+}
+
+// Whether `input` is encoded as the slow encoder does it.
+fn encodes_as_slow(
+    alloc: Global,
+    input: &[u8],
+    limit: usize,
+    text: bool,
+) -> Result<bool, AllocError>
+    requires { 6 ≤ limit }
+{
+    let items = slow_items(alloc, input, text)?;
+    let want = slow_layout(alloc, &items, limit)?;
+    let mode = if text {
+        InputMode::Text
+    } else {
+        InputMode::Binary
+    };
+    let options = Options::default().line_length_limit(limit).input_mode(mode);
+    let encoded = encode_with_options(alloc, input, options)?;
+    Ok(encoded.as_bytes() == want.as_slice())
+}
+
+#[test]
+fn encodes_every_cut_as_the_slow_encoder(rt: HostRuntime) -> Result<(), Fail> {
+    for seed in 0..300u32 {
+        let input = mixed_pieces(rt.alloc(), 14, 12, seed)?;
+        let limit = 6 + (seed % 75) as usize;
+        for end in 0..=input.len() {
+            let cut = &input[..end.min(input.len())];
+            assert!(rt; encodes_as_slow(rt.alloc(), cut, limit, true)?);
+            assert!(rt; encodes_as_slow(rt.alloc(), cut, limit, false)?);
         }
     }
     Ok(())

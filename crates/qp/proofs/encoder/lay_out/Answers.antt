@@ -19,7 +19,7 @@ loop-byte-preserved-then-run-gt0 c =
     let run : ℕ = c.run_len-run.result in
     let used : ℕ = c.loop-byte.used in
     let out : List ℕ = c.loop-byte.encoded.items in
-    let pushed : c.extend_from_slice.new.self.items ≡ out ++ take run text = grind (arith, c.in_ok-extend_from_slice.ensures.items) in
+    let pushed : c.append_front.new.bytes.items ≡ out ++ take run text = c.in_ok-append_front.ensures in
     let below : used + run < c.args.limit = omega arith in
     record {
       value =
@@ -38,7 +38,7 @@ loop-byte-preserved-then-is_break c =
     let here : (keeps_breaks mode && begins_break text) ≡ true = ap (λ t. t && begins_break text) (sym c.keeps_breaks-text.ensures) ∙ sym c.if-is_break.ensures in
     record {
       value =
-          ap (λ o. o ++ laid_out_from c.args.limit 0 (items mode (take (length text - 2) (drop 2 text)))) (c.in_ok-extend_from_slice-2.ensures.items)
+          ap (λ o. o ++ laid_out_from c.args.limit 0 (items mode (take (length text - 2) (drop 2 text)))) (c.in_ok-extend_from_slice.ensures.items)
           ∙ ap (λ r. (out ++ 13 ∷ 10 ∷ []) ++ laid_out_from c.args.limit 0 (items mode r)) (take_rest text 2)
           ∙ turn-break mode c.args.limit used c.in-Some.byte.now out text c.in-Some.after.now _ c.in-Some.ensures.cases.0 here c.loop-byte.invariant.value;
       most = omega arith;

@@ -1,32 +1,27 @@
-use Rattle.std.proofs.Common.{◌≡◌, ℕ, ◌-◌, List, [], ◌∷◌, ◌++◌, length, take, drop, sym, ◌∙◌, ap, arith}
+use Rattle.std.proofs.Common.{ℕ, List, [], ◌∷◌, ◌++◌, sym, ◌∙◌, ap}
 use Rattle.std.proofs.lemmas.Bool.{eq-eqb, ne_eqb}
-use Rattle.std.proofs.lemmas.List.{append-nil, append_assoc, take_rest}
+use Rattle.std.proofs.lemmas.List.{append-nil, append_assoc}
 use Rattle.qp.specs.Text.{kept}
 use Rattle.qp.specs.Line.{parts, values, ends_soft, line_value, is_soft}
-use Rattle.qp.proofs.Reading.{kept_run, value_after_literal, value_after_run, soft_after_literal, soft_after_run, parts_at_escape, value_after_escape, soft_after_escape, parts_at_cut, parts_at_soft, values_cut, values_soft, values-nil, ends_soft_cut, ends_soft_soft, ends_soft_nil, parts_nil}
+use Rattle.qp.proofs.Reading.{value_after_literal, soft_after_literal, parts_at_escape, value_after_escape, soft_after_escape, parts_at_cut, parts_at_soft, values_cut, values_soft, values-nil, ends_soft_cut, ends_soft_soft, ends_soft_nil, parts_nil}
 use Rattle.qp.proofs.robust.push_line.Goals as goal
+
+pub loop-byte-init : goal.loop-byte-init
+loop-byte-init c = record { value = c.in_ok-rest.ensures.value ∙ ap (λ t. c.args.decoded.now.items ++ values (parts t)) c.trim_end.ensures; soft = c.in_ok-rest.ensures.soft ∙ ap (λ t. ends_soft (parts t)) c.trim_end.ensures }
 
 pub loop-byte-preserved-then-byte-ne61 : goal.loop-byte-preserved-then-byte-ne61
 loop-byte-preserved-then-byte-ne61 c =
     let text : List ℕ = kept c.loop-byte.rest.now in
-    let after : List ℕ = c.in-Some.after.now in
-    let run : ℕ = c.run_len-run.result in
-    let rest : List ℕ = kept (drop run after) in
+    let after : List ℕ = kept c.in-Some.after.now in
     let other = ne_eqb c.in-Some.byte 61 c.if-byte-ne61.true in
-    let later : kept after ≡ take run after ++ rest = kept_run run after c.run_len-run.ensures.run in
-    let left : kept (take (length after - run) (drop run after)) ≡ rest = ap kept (take_rest after run) in
-    let pushed : c.extend_from_slice.new.self.items ≡ c.push.new.self.items ++ take run after = grind (arith, c.in_ok-extend_from_slice.ensures.items) in
     record {
       value =
-          ap (λ k. c.extend_from_slice.new.self.items ++ values (parts k)) left
-          ∙ ap (λ out. out ++ values (parts rest)) pushed
-          ∙ value_after_run c.push.new.self.items _ (kept after) (take run after) rest c.run_len-run.ensures.run later
-          (ap (λ out. out ++ values (parts (kept after))) c.in_ok-push.ensures.items
-          ∙ value_after_literal c.loop-byte.decoded.items _ text (kept after) c.in-Some.byte other c.in-Some.ensures.some c.loop-byte.invariant.value);
+          c.in_ok-rest-2.ensures.value
+          ∙ ap (λ out. out ++ values (parts after)) c.in_ok-push.ensures.items
+          ∙ value_after_literal c.loop-byte.decoded.items _ text after c.in-Some.byte other c.in-Some.ensures.some c.loop-byte.invariant.value;
       soft =
-          ap (λ k. ends_soft (parts k)) left
-          ∙ soft_after_run (kept after) (take run after) rest c.run_len-run.ensures.run later
-          ∙ soft_after_literal text (kept after) c.in-Some.byte other c.in-Some.ensures.some
+          c.in_ok-rest-2.ensures.soft
+          ∙ soft_after_literal text after c.in-Some.byte other c.in-Some.ensures.some
           ∙ c.loop-byte.invariant.soft;
     }
 
@@ -75,9 +70,10 @@ loop-byte-preserved c =
     let here = parts_at_escape text _ _ rest c.in-Some.byte high low (eq-eqb _ 61 c.if-byte-ne61.false) c.in-Some.ensures.some c.in-Some-split_first_kept.ensures.some c.in-Some-split_first_kept-2.ensures.some in
     record {
       value =
-          ap (λ out. out ++ values (parts rest)) c.in_ok-push_escape.ensures
+          c.in_ok-rest-3.ensures.value
+          ∙ ap (λ out. out ++ values (parts rest)) c.in_ok-push_escape.ensures
           ∙ value_after_escape c.loop-byte.decoded.items _ text rest high low here c.loop-byte.invariant.value;
-      soft = soft_after_escape text rest high low here ∙ c.loop-byte.invariant.soft;
+      soft = c.in_ok-rest-3.ensures.soft ∙ soft_after_escape text rest high low here ∙ c.loop-byte.invariant.soft;
     }
 
 pub returns-clause-value : goal.returns-clause-value

@@ -5,7 +5,7 @@ use Rattle.qp.proofs.robust.push_line.Given as goal
 
 abbrev pub invariant-loop-byte : goal.invariant-loop-byte
 invariant-loop-byte l = record {
-  value : l.decoded.items ++ values (parts (kept l.rest)) ≡ l.initial.decoded.items ++ values (parts (trimmed (kept l.line)));
+  value : l.decoded.items ++ values (parts (kept l.rest)) ≡ l.fn.decoded.items ++ values (parts (trimmed (kept l.line)));
   soft : ends_soft (parts (kept l.rest)) ≡ ends_soft (parts (trimmed (kept l.line)));
 }
 

@@ -8,7 +8,7 @@ use Rattle.qp.proofs.strict.has_invalid_byte.Goals as goal
 pub loop-byte-preserved-then-begins_break : goal.loop-byte-preserved-then-begins_break
 loop-byte-preserved-then-begins_break c =
     let text : List ℕ = c.loop-byte.rest.now in
-    ap has_invalid_byte (take_rest text 2) ∙ sym (invalid-pair text (sym c.if-begins_break.ensures)) ∙ c.loop-byte.invariant
+    c.skip_printable-rest-then-begins_break.ensures.same ∙ ap has_invalid_byte (take_rest text 2) ∙ sym (invalid-pair text (sym c.if-begins_break.ensures)) ∙ c.loop-byte.invariant
 
 pub returns-then-not-stands_alone : goal.returns-then-not-stands_alone
 returns-then-not-stands_alone c =
@@ -22,7 +22,7 @@ loop-byte-preserved c =
     let text : List ℕ = c.loop-byte.rest.now in
     let byte : ℕ = c.in-Some.byte.now in
     let good : (is_text_octet byte && not (eqb byte 13 || eqb byte 10)) ≡ true = cc in
-    sym (invalid-later byte text c.in-Some.after.now c.in-Some.ensures.cases.0 good) ∙ c.loop-byte.invariant
+    c.skip_printable-rest-in-Some.ensures.same ∙ sym (invalid-later byte text c.in-Some.after.now c.in-Some.ensures.cases.0 good) ∙ c.loop-byte.invariant
 
 pub returns : goal.returns
 returns c =

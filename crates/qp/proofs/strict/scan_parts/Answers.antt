@@ -15,8 +15,8 @@ loop-byte-preserved-then-byte-ne61 c =
     let other : eqb byte 61 ≡ false = ne_eqb byte 61 c.if-byte-ne61.true in
     let whole : text ≡ byte ∷ rest = c.in-Some.ensures.cases.0 in
     record {
-      soft = soft_after_literal text rest byte other whole ∙ c.loop-byte.invariant.soft;
-      fault = sym (part-literal byte text rest whole other) ∙ c.loop-byte.invariant.fault;
+      soft = c.skip_plain-rest-then-byte-ne61.ensures.soft ∙ soft_after_literal text rest byte other whole ∙ c.loop-byte.invariant.soft;
+      fault = c.skip_plain-rest-then-byte-ne61.ensures.fault ∙ sym (part-literal byte text rest whole other) ∙ c.loop-byte.invariant.fault;
     }
 
 -- `=` is the last of the line
@@ -60,8 +60,8 @@ loop-byte-preserved c =
     let low : ℕ = c.in-Some-split_first-2.low.now in
     let here = parts_at_escape text c.in-Some.after.now c.in-Some-split_first.after.now rest c.in-Some.byte.now high low (eq-eqb c.in-Some.byte.now 61 c.if-byte-ne61.false) c.in-Some.ensures.cases.0 c.in-Some-split_first.ensures.cases.0 c.in-Some-split_first-2.ensures.cases.0 in
     record {
-      soft = soft_after_escape text rest high low here ∙ c.loop-byte.invariant.soft;
-      fault = sym (part-escape high low text rest here (sym c.in-None.ensures)) ∙ c.loop-byte.invariant.fault;
+      soft = c.skip_plain-rest-in-None.ensures.soft ∙ soft_after_escape text rest high low here ∙ c.loop-byte.invariant.soft;
+      fault = c.skip_plain-rest-in-None.ensures.fault ∙ sym (part-escape high low text rest here (sym c.in-None.ensures)) ∙ c.loop-byte.invariant.fault;
     }
 
 pub returns-clause-soft : goal.returns-clause-soft

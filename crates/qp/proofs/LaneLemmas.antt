@@ -1,0 +1,89 @@
+-- From the mask of one load to a run of bytes that pass a test.
+use Rattle.std.proofs.Common.{◌≡◌, ℕ, ◌+◌, ◌-◌, ◌%◌, ◌^◌, ◌<◌, ◌≤◌, eqb, Bool, true, false, cond, not, ◌||◌, ◌&&◌, List, [], ◌∷◌, ◌++◌, map, length, take, drop, get_or, Fits, w8, refl, sym, ap, ap₂, ◌∙◌, arith}
+use Rattle.std.proofs.Math.Seq.{take-add, take-append-add}
+use Rattle.std.proofs.lemmas.List.Folds.{list_all-append}
+use Rattle.std.proofs.lemmas.Bool.{agree_below, agree_below_at, and_parts, not-true}
+use Rattle.std.proofs.lemmas.Simd.{map-map, mask_l-mod, length-chunk, get_or-chunk, first_set_mask_l, put_chunk_is}
+use Rattle.std.proofs.lemmas.List.{length-map, take-take, length-take-le, get_or-take, take_at, drop_at, take-append-le}
+use Rattle.std.proofs.lemmas.List.Sums.{list_all-from_AllPass, prefix_len-le-length, prefix_len_passes}
+use Rattle.std.proofs.lemmas.List.Elements.{All-from_get_or}
+use Rattle.std.specs.List.{prefix_len, list_all}
+use lib.Count.{count_trailing_zeros}
+use lib.Lanes.{chunk, put_chunk, zip2, mask_l, top}
+
+zip2-map : (h : ℕ → ℕ → ℕ) (f g : ℕ → ℕ) (xs : List ℕ) → zip2 h (map f xs) (map g xs) ≡ map (λ x. h (f x) (g x)) xs
+zip2-map h f g [] = refl
+zip2-map h f g (x ∷ xs) = ap (λ r. h (f x) (g x) ∷ r) (zip2-map h f g xs)
+
+-- two vectors that were computed lane by lane from one, joined lane by lane
+pub joined : (h : ℕ → ℕ → ℕ) (f g : ℕ → ℕ) (v : List ℕ) {a b : List ℕ} → a ≡ map f v → b ≡ map g v → zip2 h a b ≡ map (λ x. h (f x) (g x)) v
+joined h f g v p q = ap₂ (zip2 h) p q ∙ zip2-map h f g v
+
+-- the lanes before the first that stops pass the test q
+module _ (q : ℕ → Bool) (f : ℕ → ℕ) (text : List ℕ) (at r : ℕ) (z : List ℕ) (room : at + 16 ≤ length text) (fits : (k : ℕ) → Fits w8 (get_or text k 0))
+    (lanes : z ≡ map f (chunk at 16 text))
+    (found : r ≡ cond (eqb (mask_l (map (top 7) z) % 2 ^ 64) 0) 16 (count_trailing_zeros 64 (mask_l (map (top 7) z) % 2 ^ 64))) where
+  abbrev stops : ℕ → Bool
+  stops x = top 7 (f x)
+
+  abbrev v : List ℕ
+  v = chunk at 16 text
+
+  long : length v ≡ 16
+  long = length-chunk at 16 text room
+
+  counted : r ≡ prefix_len (λ x. not (stops x)) v
+  counted =
+      let mask = ap (λ l. mask_l l % 2 ^ 64) (ap (map (top 7)) lanes ∙ map-map (top 7) f v) ∙ mask_l-mod (map stops v) 64 (omega (arith, length-map v stops, long)) in
+      found ∙ ap (λ m. cond (eqb m 0) 16 (count_trailing_zeros 64 m)) mask ∙ first_set_mask_l stops v 16 long (omega arith)
+
+  pub lanes_few : r ≤ 16
+  lanes_few = omega (arith, counted, long, prefix_len-le-length (λ x. not (stops x)) v)
+
+  passes : agree_below (λ x. stops x || q x) (λ _. true) 256 ≡ true → (k : ℕ) → k < r → q (get_or text (at + k) 0) ≡ true
+  passes all k below =
+      let same = get_or-chunk at 16 text k 0 (omega (arith, lanes_few)) in
+      let goes = prefix_len_passes (λ x. not (stops x)) v k 0 (omega (arith, counted)) in
+      let on : stops (get_or text (at + k) 0) ≡ false = not-true _ (ap (λ x. not (stops x)) (sym same) ∙ goes) in
+      sym (ap (λ b. b || q (get_or text (at + k) 0)) on) ∙ agree_below_at (λ x. stops x || q x) (λ _. true) 256 (get_or text (at + k) 0) all (fits (at + k)).fits
+
+  pub lanes_pass : agree_below (λ x. stops x || q x) (λ _. true) 256 ≡ true → list_all q (take r (drop at text)) ≡ true
+  lanes_pass all =
+      let front = take-take r 16 (drop at text) lanes_few in
+      let few : length (take r v) ≡ r = length-take-le r v (omega (arith, long, lanes_few)) in
+      ap (list_all q) (sym front) ∙ list_all-from_AllPass q (take r v) (All-from_get_or (λ x. q x ≡ true) (take r v) 0 (λ k inside.
+      let below : k < r = omega (arith, few) in
+      ap q (get_or-take r v k 0 below ∙ get_or-chunk at 16 text k 0 (omega (arith, lanes_few))) ∙ passes all k below))
+
+-- a shorter front
+pub fewer_pass : (q : ℕ → Bool) (m n : ℕ) (text : List ℕ) → m ≤ n → list_all q (take n text) ≡ true → list_all q (take m text) ≡ true
+fewer_pass q m n text le all =
+    let whole : m + (n - m) ≡ n = omega arith in
+    let parts = ap (λ k. take k text) (sym whole) ∙ take-add m (n - m) text in
+    (and_parts (list_all q (take m text)) (list_all q (take (n - m) (drop m text))) (sym (ap (list_all q) parts ∙ list_all-append q (take m text) (take (n - m) (drop m text))) ∙ all)).0
+
+-- a front, and a run behind it
+pub more_pass : (q : ℕ → Bool) (at run : ℕ) (text : List ℕ) → list_all q (take at text) ≡ true → list_all q (take run (drop at text)) ≡ true → list_all q (take (at + run) text) ≡ true
+more_pass q at run text front behind =
+    ap (list_all q) (take-add at run text) ∙ list_all-append q (take at text) (take run (drop at text)) ∙ ap₂ (λ a b. a && b) front behind
+
+-- sixteen bytes are appended, of which `len` stay
+pub cut_back : (old text : List ℕ) (len k : ℕ) → len ≤ 16 → k ≡ length old + len → take k (old ++ take 16 text) ≡ old ++ take len text
+cut_back old text len k few e =
+    ap (λ n. take n (old ++ take 16 text)) e ∙ take-append-add old (take 16 text) len ∙ ap (λ t. old ++ t) (take-take len 16 text few)
+
+-- sixteen bytes are written, of which `run` count
+pub stored_run : (room text : List ℕ) (at run : ℕ) → at + 16 ≤ length room → 16 ≤ length text → run ≤ 16 → take (at + run) (put_chunk at room (take 16 text)) ≡ take at room ++ take run text
+stored_run room text at run wide long few =
+    let bytes : List ℕ = take 16 text in
+    let whole : length bytes ≡ 16 = length-take-le 16 text long in
+    let front = length-take-le at room (omega arith) in
+    let rest = bytes ++ drop (length bytes) (drop at room) in
+    ap (take (at + run)) (put_chunk_is at room bytes (omega (arith, whole)))
+    ∙ take-add at run (take at room ++ rest)
+    ∙ ap₂ (λ xs ys. xs ++ take run ys) (take_at (take at room) rest at front) (drop_at (take at room) rest at front)
+    ∙ ap (λ ys. take at room ++ ys) (take-append-le run bytes (drop (length bytes) (drop at room)) (omega (arith, whole)) ∙ take-take run 16 text few)
+
+pub first_of : (text : List ℕ) → ¬ (length text ≡ 0) → take 1 text ≡ get_or text 0 0 ∷ []
+first_of [] some = absurd (some refl)
+first_of (b ∷ text) some = refl
