@@ -1,11 +1,11 @@
 -- What is appended of a source's bytes, and what it lost where reading ends.
-use Rattle.std.proofs.Common.{◌≡◌, ℕ, ◌+◌, ◌-◌, ◌<◌, ◌≤◌, Option, Some, None, IfSome, List, [], ◌++◌, length, refl, sym, subst, ap, ◌∙◌, arith, length-append, append-nil}
+use Rattle.std.proofs.Common.{◌≡◌, ℕ, ◌+◌, Option, Some, None, IfSome, List, ◌++◌, length, sym, subst, ap, ◌∙◌, arith, length-append, append-nil}
 use Rattle.std.specs.Io.KnownBytes.{Consumes, IsAtEnd}
 use Rattle.std.proofs.KnownBytes.{Consumes-trans}
 use Rattle.enc_io.specs.Faults.{Rose}
 use Rattle.unwrap.specs.declared.status.ReadError.{ReadError}
 use Rattle.unwrap.specs.declared.status.ReadError.TheVariants.{ReadFault, TooMuch, Memory}
-use Rattle.unwrap.specs.Moves.{AppendsRead, IsReadError, Loses, LosesAtMost}
+use Rattle.unwrap.specs.Moves.{AppendsRead, IsReadError}
 
 -- bytes that were had, and what was appended to them
 pub read_more : (a b c : Option (List ℕ)) (bytes bytes' : List ℕ) (n : ℕ) → Consumes a b bytes → AppendsRead b c bytes bytes' n → Consumes a c bytes'

@@ -1,10 +1,9 @@
 -- What a command line asks for, value by value.
-use Rattle.std.proofs.Common.{◌≡◌, ℕ, Bool, true, false, List, [], ◌∷◌, Option, Some, None, Result, Ok, Err, refl, sym, subst, ap, ◌∙◌}
+use Rattle.std.proofs.Common.{◌≡◌, ℕ, Bool, true, false, List, [], Option, Some, None, Result, Err, refl, sym, subst, ap, ◌∙◌}
 use Rattle.std.specs.Prelude.{codes, not, option_and_then, unwrap_or}
 use Rattle.std.specs.Option.{option_map}
 use Rattle.clap.specs.Words.{App, Row, Text, all_of, first_of}
 use Rattle.enc_front.specs.declared.encoding.Encoding.{Encoding}
-use Rattle.enc_front.specs.declared.tables.IndexKind.{IndexKind}
 use Rattle.unwrap.specs.declared.command_line.Command.{Command}
 use Rattle.unwrap.specs.declared.command_line.matched.Refusal.{Refusal}
 use Rattle.unwrap.specs.declared.command_line.matched.Refusal.TheVariants.{Usage}

@@ -1,16 +1,16 @@
 -- What a copy of a reader's text has done so far, and how it ends.
-use Rattle.std.proofs.Common.{◌≡◌, ◌⊎◌, ℕ, ◌+◌, ◌-◌, ◌^◌, ◌<◌, ◌≤◌, min, Bool, true, false, Option, Some, None, IfSome, List, [], ◌∷◌, ◌++◌, length, take, drop, inl, inr, refl, sym, subst, ap, ◌∙◌, arith, append_assoc, append-nil, length-append, take-append-drop}
-use Rattle.std.proofs.Math.Seq.{take-append_seam, take-length}
+use Rattle.std.proofs.Common.{◌≡◌, ◌⊎◌, ℕ, ◌+◌, ◌-◌, ◌^◌, ◌<◌, ◌≤◌, min, true, Option, Some, None, IfSome, List, [], ◌∷◌, ◌++◌, length, take, drop, inl, inr, refl, sym, subst, ap, ◌∙◌, arith, append_assoc, append-nil, length-append, take-append-drop}
+use Rattle.std.proofs.Math.Seq.{take-append_seam}
 use Rattle.std.proofs.lemmas.List.Elements.{All-nil, All-tail}
 use Rattle.std.proofs.KnownBytes.{Appends-nil, Appends-trans}
 use Rattle.std.specs.Io.{StartsWith}
 use Rattle.std.specs.Io.KnownBytes.{Appends, Consumes, IsAtEnd}
 use Rattle.enc_drivers.specs.Units.{AreBytes}
 use Rattle.enc_io.specs.Faults.{Rose}
-use Rattle.enc_io.specs.Reader.{ReaderStanding, still, number, has_seen_end, HasTooMuch}
-use Rattle.enc_io.specs.ReaderCalls.{Faults, GoesOn, HasGivenText, KeepsLittle, Moves, Passes}
+use Rattle.enc_io.specs.Reader.{ReaderStanding, still, has_seen_end}
+use Rattle.enc_io.specs.ReaderCalls.{Faults, GoesOn, HasGivenText, Moves, Passes}
 use Rattle.enc_io.proofs.ReaderLemmas.{goes_trans, moves_trans}
-use Rattle.unwrap.specs.Copies.{CopiesAll, HandsOutPrefix, StopsAtFault, StopsAtLimit, StopsAtSink}
+use Rattle.unwrap.specs.Copies.{CopiesAll, GathersNothing, HandsOutPrefix, StopsAtFault, StopsAtLimit, StopsAtSink}
 
 -- nothing is done yet, or the reader has handed out this text
 abbrev pub HasDone : ReaderStanding → ReaderStanding → List ℕ → Type 0
@@ -107,8 +107,8 @@ copying_end a b c t0 t1 count so_far next given drained =
 
 -- a read failed
 pub copying_fault : (a b c : ReaderStanding) (t0 t1 : Option (List ℕ)) (count : ℕ) → Copying a b t0 t1 count → Faults b c → (has_seen_end c ≡ true → IsAtEnd c.left)
-    → StopsAtFault a c t0 t1
-copying_fault a b c t0 t1 count so_far next end =
+    → GathersNothing c → length (still c []) ≤ 9 → StopsAtFault a c t0 t1
+copying_fault a b c t0 t1 count so_far next end small few =
     let moves : Moves a c (so_far.text ++ []) = moves_more a b c so_far.text [] so_far.done next.moves in
     record {
       text = so_far.text;
@@ -117,6 +117,8 @@ copying_fault a b c t0 t1 count so_far next end =
       written = so_far.written;
       rose = subst (λ n. Rose n c.faults) (same_count a b so_far.text so_far.done) next.rose;
       keeps = next.keeps;
+      small = small;
+      few = few;
       within = next.within;
     }
 
@@ -138,8 +140,9 @@ copying_limit a b c t0 t1 count so_far next end =
 
 -- the sink failed
 pub copying_sink : (a b c : ReaderStanding) (t0 t1 t2 : Option (List ℕ)) (count room : ℕ) (piece front : List ℕ) → Copying a b t0 t1 count → GoesOn b c piece
-    → (has_seen_end c ≡ true → IsAtEnd c.left) → StartsWith piece front → Appends t1 t2 front → length piece ≤ room → StopsAtSink a c t0 t2 room
-copying_sink a b c t0 t1 t2 count room piece front so_far next end is_front written few =
+    → (has_seen_end c ≡ true → IsAtEnd c.left) → StartsWith piece front → Appends t1 t2 front → length piece ≤ room → GathersNothing c
+    → StopsAtSink a c t0 t2 room
+copying_sink a b c t0 t1 t2 count room piece front so_far next end is_front written few small =
     let goes : GoesOn a c (so_far.text ++ piece) = goes_more a b c so_far.text piece so_far.done next in
     let cut : piece ≡ front ++ drop (length front) piece = sym (take-append-drop (length front) piece) ∙ ap (λ l. l ++ drop (length front) piece) is_front in
     record {
@@ -151,4 +154,5 @@ copying_sink a b c t0 t1 t2 count room piece front so_far next end is_front writ
           (ap (λ l. so_far.text ++ l) cut ∙ sym (append_assoc so_far.text front (drop (length front) piece)));
       written = Appends-trans t0 t1 t2 so_far.text front so_far.written written;
       behind = omega (arith, length-append so_far.text piece, length-append so_far.text front);
+      small = small;
     }

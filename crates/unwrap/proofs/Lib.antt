@@ -3,6 +3,10 @@ mod Asking
 mod Copying
 mod Delivered
 mod Ended
+mod FilesTaken
+mod MadeHeader
+mod MadeLine
+mod Making
 mod Matching
 mod NamedFiles
 mod Reading

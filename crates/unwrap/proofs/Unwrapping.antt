@@ -1,17 +1,15 @@
 -- How a stream is unwrapped.
-use Rattle.std.proofs.Common.{◌≡◌, ◌⊎◌, ℕ, ◌+◌, ◌≤◌, Option, Some, None, IfSome, List, [], ◌++◌, length, Result, Ok, Err, Vec, inl, inr, refl, sym, subst, ap, ◌∙◌, arith, rules, true, false, IfOk, IfErr}
-use Rattle.std.specs.Prelude.{IsSome, IsSomeAnd, String, string_bytes, is_ok, nat_lt, if◌then◌else◌}
+use Rattle.std.proofs.Common.{◌≡◌, ◌⊎◌, ℕ, ◌≤◌, Option, Some, None, IfSome, List, [], ◌++◌, Result, Ok, Err, Vec, inl, inr, refl, sym, subst, ap, ◌∙◌, arith, rules, false, IfOk, IfErr}
+use Rattle.std.specs.Prelude.{IsSome, IsSomeAnd, MatchResult, String, string_bytes, is_ok, nat_lt, if◌then◌else◌}
 use Rattle.std.specs.Option.{option_map_or}
 use Rattle.std.proofs.lemmas.Bool.Decides.{nat_tests}
 use Rattle.std.specs.declared.alloc.Global.{Global}
 use Rattle.std.proofs.KnownBytes.{Consumes-nil}
-use Rattle.std.specs.Io.KnownBytes.{Appends}
 use Rattle.enc_front.specs.Indexes.{Indexes}
 use Rattle.enc_front.specs.declared.encoding.Encoding.{Encoding}
 use Rattle.enc_io.specs.BuilderView.{build_error}
 use Rattle.enc_io.specs.declared.builder.BuildError.{BuildError}
 use Rattle.enc_io.specs.declared.builder.BuildError.TheVariants as build
-use Rattle.enc_io.specs.Faults.{Rose}
 use Rattle.enc_io.specs.Options.{Options, unknown_encoding}
 use Rattle.enc_io.specs.Reader.{ReaderStanding, fresh, still}
 use Rattle.enc_io.specs.Text.{stream_text}
@@ -29,11 +27,15 @@ use Rattle.unwrap.specs.declared.text.CopyFault.{CopyFault}
 use Rattle.unwrap.specs.declared.text.CopyFault.TheVariants as copy
 use Rattle.unwrap.specs.Copies.{Copies, CopiesAll, StopsAtFault, StopsAtLimit, StopsAtSink}
 use Rattle.unwrap.specs.declared.status.Status.{Status}
+use Rattle.unwrap.specs.declared.status.Status.TheVariants as ended
+use Rattle.unwrap.specs.Status.{IsBeforeSource, TellsTable}
+use Rattle.unwrap.proofs.Delivered.{tells_written}
 use Rattle.unwrap.specs.Delivers.{HasRead, InHeader, IsRefused, Makes, NeedsTable}
 use Rattle.unwrap.specs.Header.{header_value, shown}
 use Rattle.unwrap.specs.HeaderErrors as errors
-use Rattle.unwrap.specs.HeaderErrors.{copy_error, error_status, read_error, words_error}
-use Rattle.unwrap.specs.Moves.{IsReadError, LosesAtMost}
+use Rattle.unwrap.specs.HeaderErrors.{IsNoTable, copy_error, error_status, read_error, words_error}
+use Rattle.unwrap.specs.Made.{Tells}
+use Rattle.unwrap.specs.Moves.{LosesAtMost}
 use Rattle.unwrap.specs.Unwraps.{HasFault, ReadsStream, Shows, Unwraps, header_of}
 use Rattle.unwrap.proofs.Streaming.{fresh_lost, fresh_passed, fresh_whole}
 
@@ -214,3 +216,74 @@ makes_unwrapped strategy o i left left' faults faults' (Err e) (Err status) h it
     refused (error.Lexer e) x = has_fault strategy o i left left' faults faults' (words.Lexer e) x.0 x.1
     refused (error.Parser e) x = has_fault strategy o i left left' faults faults' (words.Parser e) x.0 x.1
     refused (error.Evaluator e) x = has_fault strategy o i left left' faults faults' (words.Evaluator e) x.0 x.1
+
+-- whether an index is missing
+pub tables_unwrapped : (missing : Option Encoding) (value : List ℕ → Result (List ℕ) HeaderFault) (limit : ℕ) (left left' : Option (List ℕ)) (faults faults' : ℕ)
+    (answer : Result (String Global) HeaderError) (result : Result (Vec ℕ Global) Status) → Unwraps missing value limit left left' faults faults' answer
+    → is_ok result ≡ is_ok answer → IfErr result (λ status. IfErr answer (λ e. status ≡ error_status e)) → MatchResult result (λ _. missing ≡ None) (TellsTable missing)
+tables_unwrapped missing value limit left left' faults faults' (Ok text) (Ok bytes) h same told = h.0
+tables_unwrapped missing value limit left left' faults faults' (Ok text) (Err status) h same told = cc
+tables_unwrapped missing value limit left left' faults faults' (Err e) (Ok bytes) h same told = cc
+tables_unwrapped missing value limit left left' faults faults' (Err e) (Err status) h same told = subst (TellsTable missing) (sym told) (by_error e h)
+  where
+    memory : (m : Option Encoding) → IfSome m (λ encoding. (ended.Memory ≡ ended.NoTable encoding) ⊎ (ended.Memory ≡ ended.Memory))
+    memory None = tt
+    memory (Some encoding) = inr refl
+
+    by_error : (e : HeaderError) → Unwraps missing value limit left left' faults faults' (Err e) → TellsTable missing (error_status e)
+    by_error error.Memory x = record { table = λ encoding e. cc; no_table = memory missing }
+    by_error (error.NoTable encoding) x = record {
+      table = λ other e. let is : encoding ≡ other = cc in x.0 ∙ ap Some is;
+      no_table = subst (λ (m : Option Encoding). IfSome m (λ other. (ended.NoTable encoding ≡ ended.NoTable other) ⊎ (ended.NoTable encoding ≡ ended.Memory))) (sym x.0) (inl refl);
+    }
+    by_error error.ReadFault x = tells_written missing ended.ReadFault x.0 (λ h. h)
+    by_error error.TooMuch x = tells_written missing ended.TooMuch x.0 (λ h. h)
+    by_error (error.Lexer e) x = tells_written missing (error_status (error.Lexer e)) x.0 (λ h. h)
+    by_error (error.Parser e) x = tells_written missing (error_status (error.Parser e)) x.0 (λ h. h)
+    by_error (error.Evaluator e) x = tells_written missing (error_status (error.Evaluator e)) x.0 (λ h. h)
+
+-- and the source is then as it was
+pub unread_unwrapped : (P : Type 0) (answer : Result (String Global) HeaderError) (result : Result (Vec ℕ Global) Status) → IfErr answer (λ e. IsNoTable e → P)
+    → is_ok result ≡ is_ok answer → IfErr result (λ status. IfErr answer (λ e. status ≡ error_status e)) → IfErr result (λ status. IsBeforeSource status → P)
+unread_unwrapped P (Ok text) (Ok bytes) h same told = tt
+unread_unwrapped P (Ok text) (Err status) h same told = cc
+unread_unwrapped P (Err e) (Ok bytes) h same told = tt
+unread_unwrapped P (Err e) (Err status) h same told = λ before. h (by_error e (subst IsBeforeSource told before))
+  where
+    by_error : (e : HeaderError) → IsBeforeSource (error_status e) → IsNoTable e
+    by_error error.Memory x = x
+    by_error (error.NoTable encoding) x = tt
+    by_error error.ReadFault x = x
+    by_error error.TooMuch x = x
+    by_error (error.Lexer e) x = x
+    by_error (error.Parser e) x = x
+    by_error (error.Evaluator e) x = x
+
+-- a reader that was built has no index missing
+pub shown_has_table : (value : List ℕ → Result (List ℕ) HeaderFault) (limit : ℕ) (left left' : Option (List ℕ)) (faults faults' : ℕ) (P : Type 0)
+    (answer : Result (String Global) HeaderError) → Shows value limit left left' faults faults' answer → IfErr answer (λ e. IsNoTable e → P)
+shown_has_table value limit left left' faults faults' P (Ok text) h = tt
+shown_has_table value limit left left' faults faults' P (Err error.Memory) h = λ x. absurd x
+shown_has_table value limit left left' faults faults' P (Err (error.NoTable encoding)) h = absurd h
+shown_has_table value limit left left' faults faults' P (Err error.ReadFault) h = λ x. absurd x
+shown_has_table value limit left left' faults faults' P (Err error.TooMuch) h = λ x. absurd x
+shown_has_table value limit left left' faults faults' P (Err (error.Lexer e)) h = λ x. absurd x
+shown_has_table value limit left left' faults faults' P (Err (error.Parser e)) h = λ x. absurd x
+shown_has_table value limit left left' faults faults' P (Err (error.Evaluator e)) h = λ x. absurd x
+
+-- what is told of a header whose encoding isn't asked for
+pub told_reads : (missing : Option Encoding) (value : List ℕ → Result (List ℕ) HeaderFault) (limit : ℕ) (left left' : Option (List ℕ)) (faults faults' input : ℕ)
+    (answer : Result (String Global) HeaderError) (result : Result (Vec ℕ Global) Status) → missing ≡ None → Unwraps missing value limit left left' faults faults' answer
+    → Tells input answer result → IfErr result (λ status. IsBeforeSource status → ⊥)
+told_reads missing value limit left left' faults faults' input answer (Ok bytes) none h told = tt
+told_reads missing value limit left left' faults faults' input (Ok text) (Err status) none h told = λ x. subst IsBeforeSource told x
+told_reads missing value limit left left' faults faults' input (Err e) (Err status) none h told = λ x. by_error e h (subst IsBeforeSource told x)
+  where
+    by_error : (e : HeaderError) → Unwraps missing value limit left left' faults faults' (Err e) → IsBeforeSource (error_status e) → ⊥
+    by_error error.Memory h x = x
+    by_error (error.NoTable encoding) h x = let bad : None ≡ Some encoding = sym none ∙ h.0 in cc
+    by_error error.ReadFault h x = x
+    by_error error.TooMuch h x = x
+    by_error (error.Lexer e) h x = x
+    by_error (error.Parser e) h x = x
+    by_error (error.Evaluator e) h x = x

@@ -1,5 +1,5 @@
 -- What a command line asks for.
-use Rattle.std.specs.Prelude.{ℕ, Bool, not, List, [], ◌∷◌, Option, Some, None, codes, map, string_bytes, String, if◌then◌else◌, option_and_then, unwrap_or}
+use Rattle.std.specs.Prelude.{ℕ, Bool, not, List, [], ◌∷◌, Option, None, codes, map, string_bytes, String, if◌then◌else◌, option_and_then, unwrap_or}
 use Rattle.std.specs.Option.{option_map}
 use Rattle.std.specs.declared.alloc.Global.{Global}
 use Rattle.std.specs.Str.{bytes_eq}
@@ -7,7 +7,6 @@ use Rattle.clap.specs.Words.{Row, Text, all_of, first_of, one_of}
 use Rattle.enc_front.specs.declared.encoding.Encoding.{Encoding}
 use Rattle.enc_front.specs.declared.tables.IndexKind.{IndexKind}
 use Rattle.words.specs.declared.strategy.RecoverStrategy.{RecoverStrategy}
-use Rattle.unwrap.specs.declared.command_line.options.IndexFile.{IndexFile}
 use Rattle.unwrap.specs.declared.command_line.options.QuotedOptions.{QuotedOptions}
 use Rattle.unwrap.specs.declared.command_line.options.ReaderOptions.{ReaderOptions}
 use Rattle.unwrap.specs.declared.command_line.options.StreamOptions.{StreamOptions}

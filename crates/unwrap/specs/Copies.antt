@@ -1,12 +1,12 @@
 -- How a reader's text is written to a sink.
-use Rattle.std.specs.Prelude.{◌≡◌, ℕ, ◌+◌, ◌-◌, ◌^◌, ◌≤◌, min, true, List, ◌++◌, length, Result, Ok, Err}
+use Rattle.std.specs.Prelude.{◌≡◌, ℕ, ◌+◌, ◌-◌, ◌*◌, ◌^◌, ◌≤◌, min, List, [], ◌++◌, length, Result, Ok, Err}
 use Rattle.std.specs.declared.option.Option.{Option}
 use Rattle.std.specs.Prelude.{IfSome}
 use Rattle.std.specs.Io.{StartsWith}
 use Rattle.std.specs.Io.KnownBytes.{Appends, IsAtEnd}
 use Rattle.enc_drivers.specs.Units.{AreBytes}
 use Rattle.enc_io.specs.Faults.{Rose}
-use Rattle.enc_io.specs.Reader.{ReaderStanding, still, has_seen_end, HasTooMuch}
+use Rattle.enc_io.specs.Reader.{ReaderStanding, still, HasTooMuch}
 use Rattle.enc_io.specs.ReaderCalls.{GoesOn, HasGivenText, KeepsLittle, Moves}
 use Rattle.unwrap.specs.declared.text.CopyFault.{CopyFault}
 use Rattle.unwrap.specs.declared.text.CopyFault.TheVariants.{ReadFault, TooMuch, WriteFault}
@@ -14,6 +14,10 @@ use Rattle.unwrap.specs.declared.text.CopyFault.TheVariants.{ReadFault, TooMuch,
 -- what was handed out is a prefix of what the reader had still to give, where its source tells its bytes (a byte is a number below 256)
 abbrev pub HandsOutPrefix : ReaderStanding → List ℕ → Type 0
 HandsOutPrefix before text = IfSome before.left (λ left. AreBytes left → StartsWith (still before left) text)
+
+-- what waits in a reader, which it gives where nothing more comes, has at most three bytes for each byte of its buffer and for ten more: the input isn't gathered
+abbrev pub GathersNothing : ReaderStanding → Type 0
+GathersNothing at = length (still at []) ≤ 3 * (at.buffer + 10)
 
 -- all that the reader had still to give was written, and its source was read to its end
 pub record CopiesAll (before after : ReaderStanding) (taken taken' : Option (List ℕ)) (n : ℕ) : Type 0 where
@@ -25,7 +29,7 @@ pub record CopiesAll (before after : ReaderStanding) (taken taken' : Option (Lis
   pub end : HasGivenText after
   pub drained : IsAtEnd after.left
 
--- a read of the source failed: all that was handed out was written, and the reader keeps little
+-- a read of the source failed: all that was handed out was written, and the reader keeps little, of which three bytes at most have a text of three bytes each
 pub record StopsAtFault (before after : ReaderStanding) (taken taken' : Option (List ℕ)) : Type 0 where
   pub text : List ℕ
   pub moves : Moves before after text
@@ -33,6 +37,8 @@ pub record StopsAtFault (before after : ReaderStanding) (taken taken' : Option (
   pub written : Appends taken taken' text
   pub rose : Rose before.faults after.faults
   pub keeps : KeepsLittle after
+  pub small : GathersNothing after
+  pub few : length (still after []) ≤ 9
   pub within : after.taken ≤ after.options.limit
 
 -- the source gave more than the limit: what was handed out was written
@@ -55,6 +61,7 @@ pub record StopsAtSink (before after : ReaderStanding) (taken taken' : Option (L
   pub front_prefix : StartsWith text front
   pub written : Appends taken taken' front
   pub behind : length text ≤ length front + piece
+  pub small : GathersNothing after
 
 -- a copy in pieces of at most so many bytes, by its answer
 abbrev pub Copies : ReaderStanding → ReaderStanding → Option (List ℕ) → Option (List ℕ) → ℕ → Result ℕ CopyFault → Type 0

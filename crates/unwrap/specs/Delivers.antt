@@ -7,9 +7,9 @@ use Rattle.enc_io.specs.Faults.{Rose}
 use Rattle.qp.specs.declared.QuotedPrintableError.{QuotedPrintableError}
 use Rattle.words.specs.Fault.{HeaderFault, fault_of}
 use Rattle.unwrap.specs.declared.status.Status.{Status}
-use Rattle.unwrap.specs.declared.status.Status.TheVariants.{Done, Header, ReadFault, TooMuch, Usage, NoTable, WriteFault, Memory, Quoted, Unbuilt}
+use Rattle.unwrap.specs.declared.status.Status.TheVariants.{Done, Header, ReadFault, TooMuch, Usage, BadIndex, NoTable, WriteFault, Memory, Shelf, Quoted}
 use Rattle.unwrap.specs.Moves.{AppendsPrefix, Loses, LosesAtMost}
-use Rattle.unwrap.specs.Status.{HasInput, HasText}
+use Rattle.unwrap.specs.Status.{HasInput}
 
 -- why an input has no value
 pub data Fault : Type 0 where
@@ -57,7 +57,8 @@ IsRefused value limit left left' faults faults' Memory = (faults' ≡ faults) ×
 IsRefused value limit left left' faults faults' Done = ⊥
 IsRefused value limit left left' faults faults' WriteFault = ⊥
 IsRefused value limit left left' faults faults' Usage = ⊥
-IsRefused value limit left left' faults faults' Unbuilt = ⊥
+IsRefused value limit left left' faults faults' (BadIndex fault) = ⊥
+IsRefused value limit left left' faults faults' (Shelf fault) = ⊥
 IsRefused value limit left left' faults faults' (NoTable encoding) = (faults' ≡ faults) × LosesAtMost left left' limit × IfSome left (λ s. value s ≡ Err (NeedsTable encoding))
 IsRefused value limit left left' faults faults' status = (faults' ≡ faults) × HasRead limit left left' × TellsSomeFault status × IfSome left (λ s. Refuses (value s) status)
 

@@ -1,5 +1,5 @@
 -- The value of the command `unwrap`.
-use Rattle.std.specs.Prelude.{ℕ, Result, Ok, Err, List, []}
+use Rattle.std.specs.Prelude.{ℕ, Result, Ok, Err, List}
 use Rattle.std.specs.Option.{option_map_or}
 use Rattle.enc_front.specs.Indexes.{Indexes}
 use Rattle.enc_io.specs.Options.{Options, unknown_encoding}
@@ -20,6 +20,6 @@ abbrev pub shown : RecoverStrategy → Options → Indexes → List ℕ → Answ
 shown strategy options indexes bytes =
     option_map_or (λ encoding. Err (NeedsTable encoding)) (unknown_encoding options indexes) (header_value (header_of strategy options indexes bytes))
 
--- what `unwrap` makes of a stream, without index files
-abbrev pub unwrapped : Stream → RecoverStrategy → List ℕ → Answer
-unwrapped stream strategy = shown strategy (reader_of stream.reader) []
+-- what `unwrap` makes of a stream
+abbrev pub unwrapped : Stream → RecoverStrategy → Indexes → List ℕ → Answer
+unwrapped stream strategy indexes = shown strategy (reader_of stream.reader) indexes

@@ -1,4 +1,5 @@
 -- Errors of unwrapping a stream.
+use Rattle.std.specs.Prelude.{⊤}
 use Rattle.words.specs.declared.decoder.Error.{Error}
 use Rattle.words.specs.declared.decoder.Error.TheVariants as words
 use Rattle.unwrap.specs.declared.header.HeaderError.{HeaderError}
@@ -30,6 +31,11 @@ abbrev pub build_error : BuildError → HeaderError
 build_error (build.NoTable encoding) = NoTable encoding
 build_error (build.TooSmall room) = Memory
 build_error build.Memory = Memory
+
+-- the encoding has no index
+abbrev pub IsNoTable : HeaderError → Type 0
+IsNoTable (NoTable encoding) = ⊤
+IsNoTable _ = ⊥
 
 -- the status of an error
 abbrev pub error_status : HeaderError → Status

@@ -6,12 +6,16 @@ pub mod Description
 pub mod Files
 pub mod Header
 pub mod HeaderErrors
+pub mod Indexes
+pub mod Made
 pub mod Matched
 pub mod Memory
 pub mod Moves
 pub mod Numbers
 pub mod Quoted
 pub mod Status
+pub mod StreamSink
 pub mod Streams
+pub mod TablesOf
 pub mod Unwraps
 pub mod Values

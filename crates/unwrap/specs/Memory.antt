@@ -20,3 +20,8 @@ pub record ShelfInMemory : Type 0 where
 -- a nonempty piece, and no room is left
 abbrev pub is_full : ℕ → List ℕ → Bool
 is_full room piece = room == 0 && nat_lt 0 (length piece)
+
+-- how many calls failed, and how many there were
+pub record Counters : Type 0 where
+  pub faults : ℕ
+  pub calls : ℕ

@@ -1,8 +1,6 @@
 -- The values of the commands `qp-encode` and `qp-decode` (RFC 2045, section 6.7).
 use Rattle.std.specs.Prelude.{ℕ, Bool, if◌then◌else◌, Result, Ok, Err, List}
-use Rattle.qp.specs.declared.InputMode.{InputMode}
 use Rattle.qp.specs.declared.InputMode.TheVariants.{Text, Binary}
-use Rattle.qp.specs.declared.ParseMode.{ParseMode}
 use Rattle.qp.specs.declared.ParseMode.TheVariants.{Strict, Robust}
 use Rattle.qp.specs.declared.QuotedPrintableError.{QuotedPrintableError}
 use Rattle.qp.specs.Items.{items}

@@ -1,10 +1,11 @@
 -- The status of a process, and what a command's status says.
-use Rattle.std.specs.Prelude.{◌≡◌, ◌≢◌, ℕ, ⊤, List, [], codes}
+use Rattle.std.specs.Prelude.{◌≡◌, ◌≢◌, ◌⊎◌, ℕ, ⊤, List, [], Option, Some, IfSome, codes}
+use Rattle.enc_front.specs.declared.encoding.Encoding.{Encoding}
 use Rattle.enc_io.specs.Faults.{Rose}
 use Rattle.enc_io.specs.declared.builder.BuildError.{BuildError}
 use Rattle.enc_io.specs.declared.builder.BuildError.TheVariants as build
 use Rattle.unwrap.specs.declared.status.Status.{Status}
-use Rattle.unwrap.specs.declared.status.Status.TheVariants.{Done, Header, Usage, NoTable, ReadFault, TooMuch, WriteFault, Memory, Quoted, Unbuilt}
+use Rattle.unwrap.specs.declared.status.Status.TheVariants.{Done, Header, Usage, BadIndex, NoTable, ReadFault, TooMuch, WriteFault, Memory, Shelf, Quoted}
 use Rattle.unwrap.specs.declared.status.ReadError.{ReadError}
 use Rattle.unwrap.specs.declared.status.ReadError.TheVariants as read
 
@@ -13,26 +14,28 @@ abbrev pub code_of : Status → ℕ
 code_of Done = 0
 code_of (Header error) = 1
 code_of Usage = 2
+code_of (BadIndex fault) = 3
 code_of (NoTable encoding) = 4
 code_of ReadFault = 5
 code_of TooMuch = 6
 code_of WriteFault = 7
 code_of Memory = 8
+code_of (Shelf fault) = 9
 code_of (Quoted error) = 10
-code_of Unbuilt = 20
 
 -- the line that is told of a status on standard error; none where all went well
 abbrev pub note_of : Status → List ℕ
 note_of Done = []
 note_of (Header error) = codes "unwrap: the header cannot be shown\n"
 note_of Usage = codes "unwrap: the words are not understood\n"
+note_of (BadIndex fault) = codes "unwrap: an index file is wrong\n"
 note_of (NoTable encoding) = codes "unwrap: the encoding has no index\n"
 note_of ReadFault = codes "unwrap: reading failed\n"
 note_of TooMuch = codes "unwrap: the input is too long\n"
 note_of WriteFault = codes "unwrap: writing failed\n"
 note_of Memory = codes "unwrap: no memory\n"
+note_of (Shelf fault) = codes "unwrap: an index file cannot be read\n"
 note_of (Quoted error) = codes "unwrap: the quoted-printable text is wrong\n"
-note_of Unbuilt = codes "unwrap: not built yet\n"
 
 -- the status of an error of reading
 abbrev pub read_status : ReadError → Status
@@ -67,6 +70,26 @@ HasInput WriteFault = ⊤
 HasInput (Header error) = ⊤
 HasInput (Quoted error) = ⊤
 HasInput _ = ⊥
+
+-- the command ended behind its words and its index files
+abbrev pub IsBehindFiles : Status → Type 0
+IsBehindFiles Usage = ⊥
+IsBehindFiles (BadIndex fault) = ⊥
+IsBehindFiles (Shelf fault) = ⊥
+IsBehindFiles _ = ⊤
+
+-- the command ended before it called the source
+abbrev pub IsBeforeSource : Status → Type 0
+IsBeforeSource Usage = ⊤
+IsBeforeSource (BadIndex fault) = ⊤
+IsBeforeSource (NoTable encoding) = ⊤
+IsBeforeSource (Shelf fault) = ⊤
+IsBeforeSource _ = ⊥
+
+-- a status says that an encoding has no index exactly where one is missing, but for want of memory
+pub record TellsTable (missing : Option Encoding) (status : Status) : Type 0 where
+  pub table : (encoding : Encoding) → status ≡ NoTable encoding → missing ≡ Some encoding
+  pub no_table : IfSome missing (λ encoding. (status ≡ NoTable encoding) ⊎ (status ≡ Memory))
 
 -- how often a source and a sink failed in a command
 pub record Counts (status : Status) (reads reads' writes writes' : ℕ) : Type 0 where

@@ -1,11 +1,12 @@
 -- The command that writes a stream's text as it reads.
-use Rattle.std.specs.Prelude.{◌≡◌, ◌≢◌, ◌⊎◌, ℕ, ◌+◌, ◌≤◌, ⊤, Option, Some, None, IfSome, ◌==◌, Bool, List, [], length, Result, Ok, Err}
-use Rattle.std.specs.Io.KnownBytes.{Appends, IsAtEnd}
+use Rattle.std.specs.Prelude.{◌≡◌, ◌≢◌, ◌⊎◌, ℕ, ◌+◌, ◌*◌, ◌≤◌, ⊤, Option, Some, None, IfSome, List, [], ◌++◌, length, Result, Ok, Err}
+use Rattle.std.specs.Io.KnownBytes.{Appends, Consumes, IsAtEnd}
 use Rattle.enc_drivers.specs.Units.{AreBytes}
 use Rattle.enc_front.specs.declared.encoding.Encoding.{Encoding}
+use Rattle.enc_front.specs.Indexes.{Indexes}
 use Rattle.enc_io.specs.Options.{Options, unknown_encoding}
 use Rattle.enc_io.specs.Reader.{ReaderStanding}
-use Rattle.enc_io.specs.Text.{stream_text}
+use Rattle.enc_io.specs.Text.{chosen, stream_text}
 use Rattle.unwrap.specs.Asked.{Stream}
 use Rattle.unwrap.specs.Copies.{Copies}
 use Rattle.unwrap.specs.declared.command_line.options.ReaderOptions.{ReaderOptions}
@@ -40,24 +41,56 @@ StopsInText TooMuch = ⊤
 StopsInText WriteFault = ⊤
 StopsInText _ = ⊥
 
--- a copy of a reader's text ended so
-pub record EndsCopy (before : ReaderStanding) (left' : Option (List ℕ)) (faults' : ℕ) (taken taken' : Option (List ℕ)) (status : Status) : Type 0 where
+-- a copy of a reader's text in pieces of at most so many bytes ended so
+pub record EndsCopy (before : ReaderStanding) (left' : Option (List ℕ)) (faults' : ℕ) (taken taken' : Option (List ℕ)) (piece : ℕ) (status : Status) : Type 0 where
   pub after : ReaderStanding
-  pub piece : ℕ
   pub answer : Result ℕ CopyFault
   pub copies : Copies before after taken taken' piece answer
   pub same_status : status ≡ copy_status answer
   pub same_left : left' ≡ after.left
   pub same_faults : faults' ≡ after.faults
 
+-- what is written of a stream: the text of its bytes; the encoding that they are read by, if any; and how many bytes of the text of those that were read may wait
+-- in the end
+pub record Writing : Type 0 where
+  pub text : List ℕ → List ℕ
+  pub chosen : List ℕ → Option Encoding
+  pub waits : ℕ
+
+-- the same of a reader with a buffer and pieces of such lengths: a piece may wait, and three bytes for each byte of the buffer and for ten more
+abbrev pub writing : Options → Indexes → ℕ → ℕ → Writing
+writing options indexes buffer piece = record {
+  text = stream_text options indexes;
+  chosen = chosen options;
+  waits = piece + 3 * (buffer + 10);
+}
+
+-- of the text of the bytes that a source gave and lost, a sink took all but at most so many bytes at its end
+pub record WritesAllBut (text : List ℕ → List ℕ) (most : ℕ) (left left' taken taken' : Option (List ℕ)) : Type 0 where
+  pub given : List ℕ
+  pub front : List ℕ
+  pub behind : List ℕ
+  pub consumed : Consumes left left' given
+  pub written : Appends taken taken' front
+  pub whole : text given ≡ front ++ behind
+  pub few : length behind ≤ most
+
+-- where the source failed, at most nine bytes, the text of three that are undecided; none where the bytes pass as they are, once three were given
+pub record WritesAllGiven (writing : Writing) (left left' taken taken' : Option (List ℕ)) : Type 0 where
+  pub nearly : WritesAllBut writing.text 9 left left' taken taken'
+  pub all : 3 ≤ length nearly.given → writing.chosen nearly.given ≡ None → nearly.behind ≡ []
+
 -- how a command ends that writes the text of at most so many bytes, where the encoding that has no index is this, if one is: what a source has left, what a sink has taken, and the status
-pub record Streams (missing : Option Encoding) (text : List ℕ → List ℕ) (most : ℕ) (left left' taken taken' : Option (List ℕ)) (status : Status) : Type 0 where
+pub record Streams (missing : Option Encoding) (writing : Writing) (most : ℕ) (left left' taken taken' : Option (List ℕ)) (status : Status) : Type 0 where
   -- what was written is the text of all that the source held
-  pub headline : status ≡ Done → IfSome left (λ s. Appends taken taken' (text s))
+  pub headline : status ≡ Done → IfSome left (λ s. Appends taken taken' (writing.text s))
   pub drained : status ≡ Done → IsAtEnd left'
   pub limit : status ≡ Done → IfSome left (λ s. length s ≤ most)
   -- a prefix of it, where a byte is a number below 256
-  pub prefix : StopsInText status → IfSome left (λ s. AreBytes s → AppendsPrefix taken taken' (text s))
+  pub prefix : StopsInText status → IfSome left (λ s. AreBytes s → AppendsPrefix taken taken' (writing.text s))
+  -- and where a read or a write failed, of the bytes that were given almost all
+  pub read_fault : status ≡ ReadFault → WritesAllGiven writing left left' taken taken'
+  pub write_fault : status ≡ WriteFault → WritesAllBut writing.text writing.waits left left' taken taken'
   pub too_much : status ≡ TooMuch → Loses left left' (most + 1)
   pub given : status ≢ TooMuch → LosesAtMost left left' most
   pub table : (encoding : Encoding) → status ≡ NoTable encoding → missing ≡ Some encoding
@@ -65,14 +98,10 @@ pub record Streams (missing : Option Encoding) (text : List ℕ → List ℕ) (m
   -- when it succeeds, but for want of memory
   pub complete : missing ≡ None → IfSome left (λ s. length s ≤ most → status ≢ ReadFault → status ≢ WriteFault → (status ≡ Done) ⊎ (status ≡ Memory))
 
--- no index file is named
-abbrev pub names_no_file : Stream → Bool
-names_no_file stream = length stream.files == 0
+-- the encoding that is asked for, where an index that it needs isn't there
+abbrev pub missing : Stream → Indexes → Option Encoding
+missing stream indexes = unknown_encoding (reader_of stream.reader) indexes
 
--- the encoding that is asked for, where it isn't built in
-abbrev pub missing : Stream → Option Encoding
-missing stream = unknown_encoding (reader_of stream.reader) []
-
--- the text of a stream, without index files
-abbrev pub written : Stream → List ℕ → List ℕ
-written stream = stream_text (reader_of stream.reader) []
+-- what is written of a stream
+abbrev pub written : Stream → Indexes → Writing
+written stream indexes = writing (reader_of stream.reader) indexes stream.buffer stream.piece

@@ -1,5 +1,5 @@
 -- The header text of a stream, and what comes of reading it.
-use Rattle.std.specs.Prelude.{◌≡◌, ℕ, ◌+◌, ◌≤◌, ⊤, Option, Some, None, IfSome, IsSomeAnd, Result, Ok, Err, List, length, String, string_bytes, Vec}
+use Rattle.std.specs.Prelude.{◌≡◌, ℕ, ◌+◌, Option, Some, None, IfSome, IsSomeAnd, Result, Ok, Err, List, String, string_bytes, Vec}
 use Rattle.std.specs.declared.alloc.Global.{Global}
 use Rattle.enc_front.specs.declared.encoding.Encoding.{Encoding}
 use Rattle.enc_front.specs.Indexes.{Indexes}

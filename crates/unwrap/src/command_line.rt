@@ -13,7 +13,7 @@ use crate::command_line::description::{
     make_command, qp_decode_command, qp_encode_command, text_command, unwrap_command,
 };
 use crate::command_line::matched::{Refusal, matches_in};
-use crate::command_line::options::{QuotedOptions, StreamOptions};
+use crate::command_line::options::{Parts, QuotedOptions, StreamOptions};
 use crate::command_line::values::{parts_given, strategy_given};
 use clap::ArgMatches;
 use std::alloc::Global;
@@ -37,7 +37,7 @@ pub(crate) enum Command<'a> {
     /// The bytes of quoted-printable text.
     QpDecode(QuotedOptions),
     /// A header of so many parts, unwrapped.
-    Make(u32),
+    Make(Parts),
 }
 
 // `unwrap`, by what was found.
@@ -132,7 +132,7 @@ fn make_given<'a>(matches: &ArgMatches<'_>) -> Result<Command<'a>, Refusal>
     ensures { Gives (make_in (rows_of (found_of matches.now))) result }
 {
     match parts_given(matches) {
-        Some(parts) => Ok(Command::Make(parts)),
+        Some(number) => Ok(Command::Make(Parts { number })),
         None => Err(Refusal::Usage),
     }
 }

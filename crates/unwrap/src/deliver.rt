@@ -1,7 +1,9 @@
 //! Commands that read their input whole, make a value of it, and write that.
-ghost use Rattle.std.specs.Prelude.{◌≡◌, ◌≢◌, ℕ, List};
+ghost use Rattle.std.specs.Prelude.{◌≡◌, ℕ, List, None, IfErr, MatchResult};
+ghost use Rattle.std.specs.declared.option.Option.{Option};
+ghost use Rattle.enc_front.specs.declared.encoding.Encoding.{Encoding};
 ghost use Rattle.unwrap.specs.Delivers.{Answer, Delivers, Makes};
-ghost use Rattle.unwrap.specs.Status.{Counts, HasText};
+ghost use Rattle.unwrap.specs.Status.{Counts, HasText, IsBeforeSource, IsBehindFiles, TellsTable};
 
 use crate::devices::sink::Sink;
 use crate::moving::write_all;
@@ -9,8 +11,8 @@ use crate::status::{Finish, Status};
 use enc_io::{Failed, Source};
 use std::alloc::Global;
 
-/// What was made of a source's bytes, or the status that says why there is nothing; and the source as
-/// it stands then.
+/// What was made of a source's bytes, or the status that says why there is nothing; and the source
+/// as it stands then.
 #[derive(Drop)]
 pub struct Made<S> {
     pub bytes: Result<Vec<u8>, Status>,
@@ -22,6 +24,9 @@ pub trait Value {
     /// The most bytes of an input.
     ghost limit: { Self → ℕ };
 
+    /// The encoding that is asked for, where an index that it needs isn't there.
+    ghost missing: { Self → Option Encoding };
+
     /// The value of an input, or why it has none.
     ghost value: { Self → List ℕ → Answer };
 
@@ -30,11 +35,16 @@ pub trait Value {
     ///
     /// # Statuses
     ///
-    /// `ReadFault` where the source failed, `TooMuch` where it gave more bytes than the limit. Then
-    /// the value's fault. `Memory` may come at any growth.
+    /// `NoTable` exactly where an index is missing, before any call on the source. `ReadFault`
+    /// where the source failed, `TooMuch` where it gave more bytes than the limit. Then the value's
+    /// fault. `Memory` may come at any growth.
     fn make<S: Source>(&self, alloc: Global, source: S) -> Made<S>
         ensures made { Makes (value self.now) (limit self.now) (S.left source)
-            (S.left result.source) (S.faults source) (S.faults result.source) result.bytes };
+            (S.left result.source) (S.faults source) (S.faults result.source) result.bytes }
+        ensures tables { MatchResult result.bytes (λ _. missing self.now ≡ None)
+            (TellsTable (missing self.now)) }
+        ensures unread { IfErr result.bytes (λ status.
+            IsBeforeSource status → result.source ≡ source) };
 }
 
 /// Writes the value of a source's bytes to a sink.
@@ -49,7 +59,9 @@ pub(crate) fn deliver<V: Value, S: Source, K: Sink>(
     ensures counts { Counts result.status (S.faults source) (S.faults result.source)
         (K.faults out.old) (K.faults out.new) }
     ensures kept { ¬ HasText result.status → out.new ≡ out.old }
-    ensures after_words { result.status ≢ Status.Usage }
+    ensures tables { TellsTable (V.missing value.now) result.status }
+    ensures unread { IsBeforeSource result.status → result.source ≡ source }
+    ensures behind_files { IsBehindFiles result.status }
 {
     let Made { bytes, source } = value.make(alloc, source);
     let bytes = match bytes {

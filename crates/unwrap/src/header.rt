@@ -4,7 +4,7 @@ ghost use Rattle.enc_front.specs.Indexes.{indexes_of};
 ghost use Rattle.enc_io.specs.BuilderView.{options_of};
 ghost use Rattle.enc_io.specs.Options.{unknown_encoding};
 ghost use Rattle.enc_io.specs.ReaderView.{standing_of};
-ghost use Rattle.unwrap.specs.HeaderErrors.{error_status};
+ghost use Rattle.unwrap.specs.HeaderErrors.{IsNoTable, error_status};
 ghost use Rattle.unwrap.specs.Unwraps.{ReadsFresh, ShowsFresh, Unwraps, header_of};
 
 use crate::command_line::options::StreamOptions;
@@ -23,6 +23,7 @@ use words::{Decoder, EvaluatorError, LexerError, ParserError, RecoverStrategy};
 struct Collected {
     bytes: Vec<u8>,
     faults: u64,
+    calls: u64,
 }
 
 impl Sink for Collected {
@@ -30,7 +31,10 @@ impl Sink for Collected {
 
     ghost faults = { λ s. s.faults };
 
+    ghost calls = { λ s. s.calls };
+
     fn write(&mut self, piece: &[u8]) -> Result<usize, Failed> {
+        self.calls = self.calls.saturating_add(1);
         match self.bytes.extend_from_slice(piece) {
             Ok(()) => Ok(piece.len()),
             Err(_) => {
@@ -78,6 +82,7 @@ fn read_text<S: Source>(
     let mut collected = Collected {
         bytes: Vec::new(alloc),
         faults: 0,
+        calls: 0,
     };
     let copied = copy_text(&mut reader, piece, &mut collected);
     let source = reader.into_inner();
@@ -244,6 +249,7 @@ pub fn unwrap_header<S: Source>(
         (header_of strategy (options_of builder.now) (indexes_of tables.now))
         (options_of builder.now).limit (S.left source) (S.left result.source) (S.faults source)
         (S.faults result.source) result.answer }
+    ensures unread { IfErr result.answer (λ e. IsNoTable e → result.source ≡ source) }
 {
     let buffer = match zeroes(alloc, buffer_len) {
         Ok(buffer) => buffer,
@@ -301,6 +307,9 @@ impl Value for Header<'_> {
     ghost use Rattle.unwrap.specs.Streams.{reader_of};
 
     ghost limit = { λ header. header.options.now.reader.limit };
+
+    ghost missing = { λ header. unknown_encoding (reader_of header.options.now.reader)
+        (indexes_of header.tables.now) };
 
     ghost value = { λ header. shown header.strategy (reader_of header.options.now.reader)
         (indexes_of header.tables.now) };

@@ -79,13 +79,16 @@ pub fn read_all<S: Source>(
     }
 }
 
-/// Writes all bytes to a sink, which is given the whole rest at each call.
+/// Writes all bytes to a sink, which is given the whole rest at each call, and isn't called where none
+/// are left: it is called at most as often as there are bytes.
 ///
 /// # Errors
 ///
 /// `Failed` where the sink failed; it then has a prefix of the bytes.
 pub fn write_all<K: Sink>(sink: &mut K, bytes: &[u8]) -> Result<(), Failed>
     ensures written { OnOk result (Appends (K.taken sink.old) (K.taken sink.new) bytes.now) }
+    ensures some { OnErr result (0 < length bytes.now) }
+    ensures calls { K.calls sink.new ≤ K.calls sink.old + length bytes.now }
     ensures prefix { OnErr result (AppendsPrefix (K.taken sink.old) (K.taken sink.new) bytes.now) }
     ensures counted { OnOk result (K.faults sink.new ≡ K.faults sink.old) }
     ensures failed { OnErr result (Rose (K.faults sink.old) (K.faults sink.new)) }

@@ -1,5 +1,5 @@
 //! Quoted-printable text.
-ghost use Rattle.std.specs.Prelude.{◌≡◌, Ok, IfOk, IfErr};
+ghost use Rattle.std.specs.Prelude.{◌≡◌, None, Ok, IfOk, IfErr};
 ghost use Rattle.unwrap.specs.Asked.{quoted_view};
 ghost use Rattle.unwrap.specs.Delivers.{Refuses};
 ghost use Rattle.unwrap.specs.Quoted.{decoded_value, encoded_value, quoted_value};
@@ -76,6 +76,8 @@ impl Quoted {
 
 impl Value for Quoted {
     ghost limit = { λ quoted. quoted.options.limit };
+
+    ghost missing = { λ _. None };
 
     ghost value = { λ quoted. quoted_value quoted.encodes (quoted_view quoted.options) };
 

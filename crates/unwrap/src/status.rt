@@ -2,10 +2,44 @@
 ghost use Rattle.std.specs.Prelude.{◌≡◌};
 ghost use Rattle.unwrap.specs.Status.{code_of, note_of};
 
-use enc_front::Encoding;
+use enc_front::{Encoding, IndexKind, Why};
 use enc_io::BuildError;
 use qp::QuotedPrintableError;
 use std::alloc::AllocError;
+
+/// What is wrong with an index file.
+#[derive(Clone, Copy, Debug, PartialEq, Eq)]
+pub enum TableFault {
+    /// The first bad line, counted from 1.
+    BadLine(usize),
+    /// A file before it has an index of this kind.
+    AlreadyThere(IndexKind),
+    /// The first faulty row, and the first of its faults.
+    BadTable {
+        /// The row, counted from 0.
+        row: usize,
+        /// What is wrong with it.
+        why: Why,
+    },
+}
+
+/// An index file that is wrong.
+#[derive(Clone, Copy, Debug, PartialEq, Eq)]
+pub struct IndexFault {
+    /// Its place among the index files that the words name, counted from 0.
+    pub file: usize,
+    /// What is wrong with it.
+    pub fault: TableFault,
+}
+
+/// An index file that the shelf didn't give.
+#[derive(Clone, Copy, Debug, PartialEq, Eq)]
+pub struct ShelfFault {
+    /// Its place among the index files that the words name, counted from 0.
+    pub file: usize,
+    /// Whether it is there with more than 4,194,304 bytes; else the shelf failed.
+    pub too_long: bool,
+}
 
 /// How a command ended.
 #[derive(Debug, PartialEq, Drop)]
@@ -16,6 +50,8 @@ pub enum Status {
     Header(words::Error),
     /// The words name no command.
     Usage,
+    /// An index file is wrong.
+    BadIndex(IndexFault),
     /// The encoding that is asked for has no index.
     NoTable(Encoding),
     /// The source failed.
@@ -26,10 +62,10 @@ pub enum Status {
     WriteFault,
     /// Want of memory.
     Memory,
+    /// An index file can't be had.
+    Shelf(ShelfFault),
     /// The quoted-printable text has this fault.
     Quoted(QuotedPrintableError),
-    /// Not built yet.
-    Unbuilt,
 }
 
 impl Status {
@@ -41,13 +77,14 @@ impl Status {
             Status::Done => 0,
             Status::Header(_) => 1,
             Status::Usage => 2,
+            Status::BadIndex(_) => 3,
             Status::NoTable(_) => 4,
             Status::ReadFault => 5,
             Status::TooMuch => 6,
             Status::WriteFault => 7,
             Status::Memory => 8,
+            Status::Shelf(_) => 9,
             Status::Quoted(_) => 10,
-            Status::Unbuilt => 20,
         }
     }
 
@@ -59,13 +96,14 @@ impl Status {
             Status::Done => "",
             Status::Header(_) => "unwrap: the header cannot be shown\n",
             Status::Usage => "unwrap: the words are not understood\n",
+            Status::BadIndex(_) => "unwrap: an index file is wrong\n",
             Status::NoTable(_) => "unwrap: the encoding has no index\n",
             Status::ReadFault => "unwrap: reading failed\n",
             Status::TooMuch => "unwrap: the input is too long\n",
             Status::WriteFault => "unwrap: writing failed\n",
             Status::Memory => "unwrap: no memory\n",
+            Status::Shelf(_) => "unwrap: an index file cannot be read\n",
             Status::Quoted(_) => "unwrap: the quoted-printable text is wrong\n",
-            Status::Unbuilt => "unwrap: not built yet\n",
         }
     }
 }

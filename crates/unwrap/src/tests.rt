@@ -15,6 +15,8 @@ use std::io::{Error, ErrorKind, Read, Write};
 use std::test::Fail;
 use words::{EvaluatorError, ParserError};
 
+mod indexes;
+
 // How a command ended, what it wrote, and the source as it stands then.
 #[derive(Drop)]
 struct Outcome {
@@ -186,7 +188,7 @@ fn faults(rt: HostRuntime) -> Result<(), Fail> {
 #[test]
 fn words_before_the_source(rt: HostRuntime) -> Result<(), Fail> {
     let alloc = rt.alloc();
-    let rows: [(&[&str], Status); 25] = [
+    let rows: [(&[&str], Status); 22] = [
         (&[], Status::Usage),
         (&["x"], Status::Usage),
         (&["unwrap", "--limit", "x"], Status::Usage),
@@ -211,16 +213,10 @@ fn words_before_the_source(rt: HostRuntime) -> Result<(), Fail> {
             &["unwrap", "--encoding=euc-kr"],
             Status::NoTable(Encoding::EucKr),
         ),
-        (&["unwrap", "big5=f"], Status::Unbuilt),
-        (
-            &["text", "jis0208=a", "--encoding", "euc-jp", "jis0212=b"],
-            Status::Unbuilt,
-        ),
         (
             &["text", "--encoding", "big5"],
             Status::NoTable(Encoding::Big5),
         ),
-        (&["make", "3"], Status::Unbuilt),
     ];
     for (words, status) in rows {
         let bytes = Vec::from_slice(alloc, b"a")?;
@@ -498,11 +494,25 @@ fn texts(rt: HostRuntime) -> Result<(), Fail> {
     Ok(())
 }
 
+// A header that is made leaves the source alone.
+#[test]
+fn made(rt: HostRuntime) -> Result<(), Fail> {
+    let alloc = rt.alloc();
+    let input = vec![in alloc; b'a'; 16]?;
+    let mut end = run_once(alloc, &["make", "3"], input, 5, 1, 0)?;
+    assert_eq!(rt; end.status, Status::Done);
+    let line = "made 46 bytes, text 11 bytes, sum 1201\n";
+    assert_eq!(rt; end.written.as_slice(), line.as_bytes());
+    let mut buf = [0];
+    assert_eq!(rt; end.source.read(&mut buf), Err(Failed));
+    Ok(())
+}
+
 // One line on each refusal, and none where all was written.
 #[test]
 fn notes(rt: HostRuntime) -> Result<(), Fail> {
     let alloc = rt.alloc();
-    let rows: [(&[&str], &[u8], u64, u64, &str); 10] = [
+    let rows: [(&[&str], &[u8], u64, u64, &str); 12] = [
         (&["unwrap"], b"a", 0, 0, ""),
         (
             &["unwrap"],
@@ -536,11 +546,32 @@ fn notes(rt: HostRuntime) -> Result<(), Fail> {
             0,
             "unwrap: the encoding has no index\n",
         ),
-        (&["make", "3"], b"", 0, 0, "unwrap: not built yet\n"),
+        (
+            &["text", "--limit=3"],
+            b"abcd",
+            0,
+            0,
+            "unwrap: the input is too long\n",
+        ),
+        (
+            &["text", "big5=a"],
+            b"",
+            0,
+            0,
+            "unwrap: an index file is wrong\n",
+        ),
+        (
+            &["text", "big5=b"],
+            b"",
+            0,
+            0,
+            "unwrap: an index file cannot be read\n",
+        ),
     ];
     for (words, input, read, write, note) in rows {
         let words = words_of(alloc, words)?;
-        let mut shelf = MemoryShelf::new(Vec::new(alloc), Vec::new(alloc));
+        let wrong = (String::from_str(alloc, "a")?, Vec::from_slice(alloc, b"x")?);
+        let mut shelf = MemoryShelf::new(vec![in alloc; wrong]?, Vec::new(alloc));
         let input = Vec::from_slice(alloc, input)?;
         let source = MemorySource::new(input, 1, vec![in alloc; read]?);
         let mut out = MemorySink::new(vec![in alloc; 0u8; 16]?, 1, vec![in alloc; write]?);

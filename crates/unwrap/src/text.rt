@@ -5,10 +5,9 @@ ghost use Rattle.enc_io.specs.BuilderView.{options_of};
 ghost use Rattle.enc_io.specs.Faults.{Rose};
 ghost use Rattle.enc_io.specs.Options.{unknown_encoding};
 ghost use Rattle.enc_io.specs.ReaderView.{standing_of};
-ghost use Rattle.enc_io.specs.Text.{stream_text};
 ghost use Rattle.unwrap.specs.Copies.{Copies};
-ghost use Rattle.unwrap.specs.Status.{Counts, HasTextSoFar};
-ghost use Rattle.unwrap.specs.Streams.{EndsCopy, Streams, copy_status, reader_of};
+ghost use Rattle.unwrap.specs.Status.{Counts, HasTextSoFar, IsBeforeSource, IsBehindFiles};
+ghost use Rattle.unwrap.specs.Streams.{EndsCopy, Streams, copy_status, reader_of, writing};
 
 use crate::command_line::options::{ReaderOptions, StreamOptions};
 use crate::devices::sink::Sink;
@@ -96,7 +95,9 @@ fn write_all_text<S: Source, K: Sink>(
 ) -> Finish<S>
     requires { 0 < length piece.old }
     ensures streams { EndsCopy (standing_of reader.entry) (S.left result.source)
-        (S.faults result.source) (K.taken out.old) (K.taken out.new) result.status }
+        (S.faults result.source) (K.taken out.old) (K.taken out.new) (length piece.old)
+        result.status }
+    ensures behind_files { IsBehindFiles result.status }
     ensures counts { Counts result.status (standing_of reader.entry).faults
         (S.faults result.source) (K.faults out.old) (K.faults out.new) }
     ensures kept { ¬ HasTextSoFar result.status → out.new ≡ out.old }
@@ -117,12 +118,14 @@ pub(crate) fn write_text<S: Source, K: Sink>(
     source: S,
     out: &mut K,
 ) -> Finish<S>
-    ensures no_usage { result.status ≢ Status.Usage }
+    ensures behind_files { IsBehindFiles result.status }
     ensures streams { Streams
         (unknown_encoding (reader_of options.now.reader) (indexes_of tables.now))
-        (stream_text (reader_of options.now.reader) (indexes_of tables.now))
+        (writing (reader_of options.now.reader) (indexes_of tables.now) options.now.buffer
+        options.now.piece)
         options.now.reader.limit (S.left source) (S.left result.source)
         (K.taken out.old) (K.taken out.new) result.status }
+    ensures unread { IsBeforeSource result.status → result.source ≡ source }
     ensures counts { Counts result.status (S.faults source) (S.faults result.source)
         (K.faults out.old) (K.faults out.new) }
     ensures kept { ¬ HasTextSoFar result.status → out.new ≡ out.old }
@@ -156,3 +159,6 @@ pub(crate) fn write_text<S: Source, K: Sink>(
         }
     }
 }
+
+#[cfg(test)]
+mod tests;

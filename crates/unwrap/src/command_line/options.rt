@@ -63,6 +63,13 @@ pub(crate) struct QuotedOptions {
     ghost line_fits: { 6 ≤ line },
 }
 
+/// How many parts a header is made of, at most 20,000.
+#[derive(Clone, Copy, Debug)]
+pub(crate) struct Parts {
+    pub number: u32,
+    ghost few: { number ≤ 20000 },
+}
+
 impl ReaderOptions {
     ghost use Rattle.clap.specs.Words.{found_of, rows_of};
     ghost use Rattle.unwrap.specs.Asked.{reader_in};

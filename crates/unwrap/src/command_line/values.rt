@@ -60,6 +60,7 @@ fn number_of(text: &str) -> Option<u32>
 fn number_in(text: &str, least: u32, most: u32) -> Option<u32>
     ensures number { result ≡ number_in least most text.now }
     ensures least { IfSome result (λ n. least ≤ n) }
+    ensures most { IfSome result (λ n. n ≤ most) }
 {
     let number = number_of(text)?;
     if number < least {
@@ -134,8 +135,9 @@ pub(super) fn strategy_given(matches: &ArgMatches<'_>) -> Option<RecoverStrategy
 
 /// How many parts `make` is asked for; none where the text isn't a number from 1 to 20000.
 pub(super) fn parts_given(matches: &ArgMatches<'_>) -> Option<u32>
-    ensures { result ≡ option_and_then (number_in 1 20000)
+    ensures number { result ≡ option_and_then (number_in 1 20000)
         (first_of (codes "parts") (rows_of (found_of matches.now))) }
+    ensures most { IfSome result (λ n. n ≤ 20000) }
 {
     let text = first_given(matches, "parts")?;
     number_in(text, 1, 20_000)

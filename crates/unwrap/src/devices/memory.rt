@@ -7,14 +7,11 @@ ghost use Rattle.enc_io.specs.Faults.{Rose, count_after, is_failing};
 ghost use Rattle.unwrap.specs.Memory.{is_full};
 ghost use Rattle.unwrap.specs.Files.{file, files_of, IsShortFile, IsLongFile};
 
-use crate::devices::shelf::{Shelf, ShelfError};
+use crate::devices::shelf::{MOST_BYTES, Shelf, ShelfError};
 use crate::devices::sink::Sink;
 use enc_io::Failed;
 use std::alloc::Global;
 use std::marker::Model;
-
-// The most bytes of a file.
-const MOST_BYTES: usize = 4_194_304;
 
 /// A sink that takes bytes into a vector, from its front, at most `step` at a time. It fails at the
 /// calls whose numbers it was given, and at a nonempty write where no room is left. It numbers its
@@ -98,6 +95,8 @@ impl Sink for MemorySink {
     ghost taken = { λ s. Some s.taken };
 
     ghost faults = { λ s. s.faults };
+
+    ghost calls = { λ s. s.calls };
 
     fn write(&mut self, piece: &[u8]) -> Result<usize, Failed>
         // As of every sink.

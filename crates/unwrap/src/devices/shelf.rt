@@ -6,6 +6,9 @@ ghost use Rattle.unwrap.specs.Files.{file, IsShortFile, IsLongFile};
 
 use std::alloc::{AllocError, Global};
 
+/// The most bytes of a file.
+pub(crate) const MOST_BYTES: usize = 4_194_304;
+
 /// Why a file could not be fetched.
 #[derive(Clone, Copy, Debug, PartialEq, Eq)]
 pub enum ShelfError {

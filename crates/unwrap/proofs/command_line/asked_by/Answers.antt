@@ -1,7 +1,7 @@
 use Rattle.std.proofs.Common.{◌≡◌, true, false, rules, subst}
 use Rattle.std.specs.Prelude.{Option, codes}
 use Rattle.std.specs.Str.{bytes_eq}
-use Rattle.unwrap.specs.Asked.{Asked, texts_of}
+use Rattle.unwrap.specs.Asked.{Asked}
 use Rattle.unwrap.specs.Commands.{Gives}
 use Rattle.unwrap.proofs.Asking.{by_make, by_none, by_qp_decode, by_qp_encode, by_text, by_unwrap}
 use Rattle.unwrap.proofs.command_line.asked_by.Goals as goal

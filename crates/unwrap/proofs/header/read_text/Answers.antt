@@ -1,4 +1,4 @@
-use Rattle.std.proofs.Common.{ℕ, Result, Ok, Err, sym, subst, ap}
+use Rattle.std.proofs.Common.{Ok, Err, sym, subst, ap}
 use Rattle.enc_io.specs.ReaderView.{standing_of}
 use Rattle.unwrap.specs.declared.status.ReadError.{ReadError}
 use Rattle.unwrap.specs.HeaderErrors.{copy_error}

@@ -6,7 +6,7 @@ use Rattle.unwrap.specs.declared.header.HeaderError.{HeaderError}
 use Rattle.unwrap.specs.HeaderErrors.{build_error}
 use Rattle.unwrap.specs.Unwraps.{Unwraps, header_of}
 use Rattle.unwrap.proofs.Streaming.{not_missing}
-use Rattle.unwrap.proofs.Unwrapping.{unwraps, unwraps_refused}
+use Rattle.unwrap.proofs.Unwrapping.{shown_has_table, unwraps, unwraps_refused}
 use Rattle.unwrap.proofs.header.unwrap_header.Goals as goal
 
 pub returns-in-Ok-build_with_buffer : goal.returns-in-Ok-build_with_buffer
@@ -18,6 +18,8 @@ returns-in-Ok-build_with_buffer g c =
     record {
       unwraps = unwraps (unknown_encoding o i) (header_of c.args.strategy o i) o.limit left _ faults _ c.unwrap_reader.result.answer
           (sym (not_missing o i c.in-Ok.buffer.len c.in-Ok-build_with_buffer.ensures.built))
+          (c.unwrap_reader.ensures o c.in-Ok.buffer.len left faults (g.S.Source.calls c.args.source) c.in-Ok-build_with_buffer.ensures.fresh);
+      unread = shown_has_table (header_of c.args.strategy o i) o.limit left _ faults _ _ c.unwrap_reader.result.answer
           (c.unwrap_reader.ensures o c.in-Ok.buffer.len left faults (g.S.Source.calls c.args.source) c.in-Ok-build_with_buffer.ensures.fresh);
     }
 
@@ -37,4 +39,5 @@ returns g c =
           (subst (λ (n : ℕ). Unwraps (unknown_encoding o i) value o.limit left (g.S.Source.left c.in-Err-build_with_buffer.refused.0) faults n (Err (build_error error))) (ap g.S.Source.faults back)
           (subst (λ (l : Option (List ℕ)). Unwraps (unknown_encoding o i) value o.limit left l faults faults (Err (build_error error))) (ap g.S.Source.left back)
           (unwraps_refused o i c.in-Ok.buffer.len value left faults error enough c.in-Err-build_with_buffer.ensures.refused)));
+      unread = λ _. sym back;
     }

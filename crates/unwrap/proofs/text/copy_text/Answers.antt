@@ -1,4 +1,5 @@
 use Rattle.std.proofs.Common.{rules, Ok, ◌≡◌, ◌+◌, ◌-◌, ◌^◌, ◌<◌, ◌≤◌, min, length, take, refl, sym, ap, ◌∙◌, arith, length-take-le}
+use Rattle.enc_io.proofs.BoundLemmas.{few_reader}
 use Rattle.unwrap.proofs.Copying.{copying_end, copying_fault, copying_limit, copying_more, copying_sink, copying_start}
 use Rattle.unwrap.proofs.text.copy_text.Goals as goal
 
@@ -28,6 +29,7 @@ pub returns-in-Err-ReadFault-clause-copies : goal.returns-in-Err-ReadFault-claus
 returns-in-Err-ReadFault-clause-copies g c =
     let room : 0 < length c.loop-n.piece = omega (arith, c.loop-n.invariant.room, c.requires) in
     copying_fault _ _ _ _ _ _ c.loop-n.invariant.copying ((rw c.in-Err-ReadFault.field-0-is at c.in-Err-ReadFault.ensures.does) room) c.in-Err-ReadFault.ensures.left
+    c.in-Err-ReadFault.ensures.small (few_reader c.read.new.self ((rw c.in-Err-ReadFault.field-0-is at c.in-Err-ReadFault.ensures.does) room).keeps)
 
 pub returns-in-Err-TooMuch-clause-copies : goal.returns-in-Err-TooMuch-clause-copies
 returns-in-Err-TooMuch-clause-copies g c =
@@ -40,4 +42,4 @@ returns-in-Err-clause-copies g c =
     let few : length (take c.in-Ok.n c.read.new.buf) ≤ length c.args.piece.now =
     omega (arith, length-take-le c.in-Ok.n c.read.new.buf c.in-Ok.ensures.within.0, c.in-Ok.ensures.within.0, c.in-Ok.ensures.len, c.loop-n.invariant.room) in
     copying_sink _ _ _ _ _ _ _ _ _ c.in-Err.ensures.prefix.0 c.loop-n.invariant.copying (c.in-Ok.ensures.does room) c.in-Ok.ensures.left
-    c.in-Err.ensures.prefix.1 c.in-Err.ensures.prefix.2 few
+    c.in-Err.ensures.prefix.1 c.in-Err.ensures.prefix.2 few c.in-Ok.ensures.small

@@ -1,4 +1,4 @@
-use Rattle.std.proofs.Common.{◌≡◌, ◌≤◌, ◌<◌, length}
+use Rattle.std.proofs.Common.{◌≡◌, length}
 use Rattle.enc_io.specs.Reader.{number}
 use Rattle.enc_io.specs.ReaderView.{standing_of}
 use Rattle.unwrap.proofs.Copying.{Copying}

@@ -1,6 +1,6 @@
-use Rattle.std.proofs.Common.{List, [], ◌∷◌, ap, ◌∙◌, codes}
+use Rattle.std.proofs.Common.{ap, ◌∙◌}
 use Rattle.std.proofs.lemmas.Result.{IfOk-weaker}
-use Rattle.clap.specs.Words.{App, with_rule}
+use Rattle.clap.specs.Words.{App}
 use Rattle.unwrap.specs.Description.{pieces, reader_options, text_app, with_rules}
 use Rattle.unwrap.proofs.command_line.description.text_command.Goals as goal
 

@@ -3,7 +3,7 @@ use Rattle.enc_front.specs.Indexes.{indexes_of}
 use Rattle.enc_io.specs.Options.{Options, unknown_encoding}
 use Rattle.unwrap.specs.Streams.{reader_of}
 use Rattle.unwrap.specs.Unwraps.{Unwraps, header_of}
-use Rattle.unwrap.proofs.Unwrapping.{makes_unwrapped}
+use Rattle.unwrap.proofs.Unwrapping.{makes_unwrapped, tables_unwrapped, unread_unwrapped}
 use Rattle.unwrap.proofs.header.HeaderValue.make.Goals as goal
 
 pub returns : goal.returns
@@ -15,4 +15,5 @@ returns g c =
     let faults = g.S.Source.faults c.args.source in
     let unwraps = subst (λ (x : Options). Unwraps (unknown_encoding x i) (header_of header.strategy x i) x.limit left (g.S.Source.left c.unwrap_header-unwrapped.result.source) faults
     (g.S.Source.faults c.unwrap_header-unwrapped.result.source) c.unwrap_header-unwrapped.result.answer) c.builder_of-builder.ensures c.unwrap_header-unwrapped.ensures.unwraps in
-    record { made = makes_unwrapped header.strategy o i left _ faults _ c.unwrap_header-unwrapped.result.answer c.bytes_of.result unwraps c.bytes_of.ensures.text c.bytes_of.ensures.same c.bytes_of.ensures.error }
+    let answer = c.unwrap_header-unwrapped.result.answer in
+    record { tables = tables_unwrapped _ _ _ _ _ _ _ answer c.bytes_of.result unwraps c.bytes_of.ensures.same c.bytes_of.ensures.error; unread = unread_unwrapped _ answer c.bytes_of.result c.unwrap_header-unwrapped.ensures.unread c.bytes_of.ensures.same c.bytes_of.ensures.error; made = makes_unwrapped header.strategy o i left _ faults _ c.unwrap_header-unwrapped.result.answer c.bytes_of.result unwraps c.bytes_of.ensures.text c.bytes_of.ensures.same c.bytes_of.ensures.error }
