@@ -2,9 +2,10 @@
 PROGRAM = crates/unwrap/out/unwrap
 SOURCES = $(shell find crates -name out -prune -o -type f -print) crates.txt HANDLES
 PREFIX ?= /usr/local
+SHARE = $(DESTDIR)$(PREFIX)/share
 ARGS ?= unwrap
 
-.PHONY: all build run test bench install
+.PHONY: all build run test bench install deb
 
 all: build
 
@@ -23,8 +24,16 @@ test:
 
 bench: build
 	bench/headers $(PROGRAM)
+	bench/quoted $(PROGRAM)
+	bench/text $(PROGRAM)
 
 install: build
-	install -d $(DESTDIR)$(PREFIX)/bin $(DESTDIR)$(PREFIX)/share/man/man1
+	install -d $(DESTDIR)$(PREFIX)/bin $(SHARE)/man/man1 $(SHARE)/bash-completion/completions
 	install -m 755 $(PROGRAM) $(DESTDIR)$(PREFIX)/bin/unwrap
-	install -m 644 docs/unwrap.1 $(DESTDIR)$(PREFIX)/share/man/man1/unwrap.1
+	install -m 755 tools/indexes $(DESTDIR)$(PREFIX)/bin/unwrap-indexes
+	install -m 644 docs/unwrap.1 $(SHARE)/man/man1/unwrap.1
+	install -m 644 completions/unwrap.bash $(SHARE)/bash-completion/completions/unwrap
+
+# A Debian package in out/.
+deb: build
+	tools/deb $(PROGRAM) out
