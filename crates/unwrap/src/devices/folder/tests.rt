@@ -15,9 +15,13 @@ fn fetches(rt: HostRuntime) -> Result<(), Fail> {
     fs::create_dir(&rt, "folder_shelf_test/inner")?;
     fs::write(&rt, "folder_shelf_test/short", b"abc".as_slice())?;
     fs::write(&rt, "folder_shelf_test/inner/short", b"d".as_slice())?;
-    let long = vec![in alloc; 0u8; 4_194_305]?;
-    fs::write(&rt, "folder_shelf_test/full", &long[..4_194_304])?;
-    fs::write(&rt, "folder_shelf_test/long", long.as_slice())?;
+    for (name, len) in [
+        ("folder_shelf_test/full", 4_194_304),
+        ("folder_shelf_test/long", 4_194_305),
+    ] {
+        let bytes = vec![in alloc; 0u8; len]?;
+        fs::write(&rt, name, bytes.as_slice())?;
+    }
     let mut shelf = FolderShelf::new(&rt, FOLDER);
     let rows = [
         ("short", Ok(3)),
