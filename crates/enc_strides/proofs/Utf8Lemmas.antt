@@ -81,6 +81,12 @@ put_part xs ys i k few room =
     let rest = ys ++ drop (length ys) (drop i xs) in
     rw (put_chunk_is i xs ys room, take-add i k (take i xs ++ rest), take_at (take i xs) rest i front, drop_at (take i xs) rest i front, take-append-le k ys (drop (length ys) (drop i xs)) few)
 
+-- the bytes of a vector of one lane
+pub bytes_are : (e : ℕ) → (e + 0) % 256 ∷ (e + 0) / 256 % 256 ∷ (e + 0) / 256 / 256 % 256 ∷ (e + 0) / 256 / 256 / 256 % 256 ∷ [] ≡ to_le_bytes w32 e
+bytes_are e =
+    let none : e + 0 ≡ e = omega arith in
+    ap (λ n. n % 256 ∷ n / 256 % 256 ∷ n / 256 / 256 % 256 ∷ n / 256 / 256 / 256 % 256 ∷ []) none ∙ grind (arith, nat_tests)
+
 -- an entry is stored whole, and its text counts
 pub stored : (xs bytes : List ℕ) (i entry : ℕ) → bytes ≡ to_le_bytes w32 entry → i + 4 ≤ length xs
     → Appended xs (put_chunk i xs bytes) i (i + entry / 2 ^ 24 % 4) (entry_text entry)
@@ -133,6 +139,9 @@ text_sized x fits true two e f = text_one x (grind (arith, nat_tests))
 text_sized x fits false true e f = text_two x (grind (arith, nat_tests)) (grind (arith, nat_tests))
 text_sized x fits false false e f = text_three x (grind (arith, nat_tests)) fits
 
+pub text_is : (x : ℕ) → x < 0x1_0000 → entry_text (entry x) ≡ encode x
+text_is x fits = text_sized x fits (nat_lt x 0x80) (nat_lt x 0x800) refl refl
+
 -- the texts of the units' entries are their UTF-8
 pub texts : (xs : List ℕ) → Each1 (Fits w16) xs → flat_map entry_text (map entry xs) ≡ flat_map encode xs
 texts [] fits = refl
@@ -143,4 +152,10 @@ pub all_appended : (before after : List ℕ) (at end i : ℕ) (entries units : L
 all_appended before after at end i entries units done eight e long fits =
     let whole : flat_map entry_text (take i entries) ≡ flat_map encode units =
     ap (λ es. flat_map entry_text (take i es)) e ∙ (ap (λ es. flat_map entry_text es) (take_all i (map entry units) (omega (arith, length-map units entry, long, eight))) ∙ texts units fits) in
+    record { place = done.place ∙ ap (λ t. at + length t) whole; value = done.value ∙ ap (λ t. take at before ++ t) whole }
+
+pub all_entries : (before after : List ℕ) (at end i : ℕ) (entries : List ℕ) → Appended before after at end (flat_map entry_text (take i entries)) → length entries ≤ i
+    → Appended before after at end (flat_map entry_text entries)
+all_entries before after at end i entries done all =
+    let whole : flat_map entry_text (take i entries) ≡ flat_map entry_text entries = ap (λ es. flat_map entry_text es) (take_all i entries all) in
     record { place = done.place ∙ ap (λ t. at + length t) whole; value = done.value ∙ ap (λ t. take at before ++ t) whole }

@@ -56,7 +56,8 @@ fn unit_at(stride: &[u16; 16], place: Option<usize>) -> Option<(u16, usize)>
     Some((stride[at], at))
 }
 
-/// The first unit past ASCII, and its place, after the low bytes are written: the units before that place as they are.
+/// The first unit past ASCII, and its place, after the low bytes are written: the units before that
+/// place as they are.
 #[inline(always)]
 pub fn basic_latin_to_ascii_stride(src: &[u16; 16], dst: &mut [u8; 16]) -> Option<(u16, usize)>
     ensures found { result ≡ first_at is_past_ascii src.now }
@@ -172,8 +173,8 @@ fn low_bytes(v: u16x16) -> [u8; 16]
     (v & u16x16::splat(0xFF)).cast::<u8>().to_array()
 }
 
-/// The first unit past ASCII of two strides, and its place, 0 to 31, after the low bytes are written: the units before that
-/// place as they are.
+/// The first unit past ASCII of two strides, and its place, 0 to 31, after the low bytes are
+/// written: the units before that place as they are.
 #[inline(always)]
 pub fn basic_latin_to_ascii_double_stride(
     src: &[[u16; 16]; 2],

@@ -53,7 +53,8 @@ pub(crate) fn stride_in(v: u16x16, least: u16, end: u16) -> u64
 // The place of the lowest bit that is set: of a mask of lanes that pass, the first of them.
 #[inline(always)]
 pub(crate) fn lowest(mask: u64) -> Option<usize>
-    ensures { (passes : ℕ → Bool) (xs : List ℕ) → length xs ≤ 64 → mask ≡ mask_l (map passes xs) → result ≡ position passes xs }
+    ensures { (passes : ℕ → Bool) (xs : List ℕ) → length xs ≤ 64 → mask ≡ mask_l (map passes xs)
+        → result ≡ position passes xs }
 {
     if mask == 0 {
         return None;

@@ -2,7 +2,8 @@
 ghost use Rattle.std.specs.Prelude.{◌≡◌, ℕ, ◌<◌, ◌+◌, ◌*◌, List, [], ◌∷◌, map, true};
 ghost use Rattle.enc_strides.specs.Lanes.{all_below, low_byte, swapped, units_of};
 
-/// Units of ASCII are their low bytes: where nothing is found past ASCII, a copy to bytes loses nothing.
+/// Units of ASCII are their low bytes: where nothing is found past ASCII, a copy to bytes loses
+/// nothing.
 pub fn ascii_is_its_low_bytes()
     ensures { (xs : List ℕ) → all_below 0x80 xs ≡ true → map low_byte xs ≡ xs }
 {}
@@ -14,5 +15,6 @@ pub fn swapped_twice()
 
 /// A unit is its low byte and its high byte.
 pub fn unit_of_its_bytes()
-    ensures { (low high : ℕ) (rest : List ℕ) → units_of (low ∷ high ∷ rest) ≡ (low + 256 * high) ∷ units_of rest }
+    ensures { (low high : ℕ) (rest : List ℕ) → units_of (low ∷ high ∷ rest)
+        ≡ (low + 256 * high) ∷ units_of rest }
 {}

@@ -1,5 +1,6 @@
-//! Kernels on sixteen bytes or eight or sixteen units of UTF-16 at once, each with the meaning of its lanes.
-//! A stride is sixteen elements, a double stride twice as many. The definitions are in `specs/`.
+//! Kernels on sixteen bytes or eight or sixteen units of UTF-16 at once, each with the meaning of
+//! its lanes. A stride is sixteen elements, a double stride twice as many. The definitions are in
+//! `specs/`.
 #![tactic(auto)]
 
 pub mod ascii;

@@ -55,7 +55,8 @@ fn copy_tail(src: &[u8], dst: &mut [u8], from: usize) -> usize
     n
 }
 
-/// Copies bytes up to the first past ASCII, or as many as fit, and says how many. It may write over what lies behind them.
+/// Copies bytes up to the first past ASCII, or as many as fit, and says how many. It may write over
+/// what lies behind them.
 pub fn ascii_to_ascii(src: &[u8], dst: &mut [u8]) -> usize
     ensures count { result ≡ min (run_len src.now) (length dst.old) }
     ensures copied { take result dst.new ≡ take result src.now }
@@ -131,7 +132,8 @@ fn unpack_tail(src: &[u8], dst: &mut [u16], from: usize) -> usize
     n
 }
 
-/// Writes bytes as units up to the first past ASCII, or as many as fit, and says how many. It may write over what lies behind them.
+/// Writes bytes as units up to the first past ASCII, or as many as fit, and says how many. It may
+/// write over what lies behind them.
 pub fn ascii_to_basic_latin(src: &[u8], dst: &mut [u16]) -> usize
     ensures count { result ≡ min (run_len src.now) (length dst.old) }
     ensures copied { take result dst.new ≡ take result src.now }

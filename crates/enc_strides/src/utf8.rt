@@ -4,7 +4,8 @@ ghost use Rattle.enc_strides.specs.Utf8.{entry, entry_text, Appended};
 
 use std::simd::prelude::*;
 
-// Of each unit its UTF-8 in the low three bytes, the first the lowest, and how many bytes that are in the high one.
+// Of each unit its UTF-8 in the low three bytes, the first the lowest, and how many bytes that are
+// in the high one.
 #[inline(always)]
 fn entries(units: u16x8) -> [u32; 8]
     ensures { result ≡ map entry units }
@@ -23,20 +24,24 @@ fn entries(units: u16x8) -> [u32; 8]
         .to_array()
 }
 
-// Stores an entry whole, of which the text counts, and answers the place behind that.
+/// Writes the text of an entry at `to`, and answers the place behind it. An entry has the UTF-8 of
+/// a scalar up to U+FFFF in its low three bytes, the first the lowest, and how many bytes that are
+/// in the high one. It may write over what lies behind the text.
 #[inline(always)]
-fn append_entry(entry: u32, dst: &mut [u8], to: usize) -> usize
+pub fn append_entry(entry: u32, dst: &mut [u8], to: usize) -> usize
     requires { to + 4 ≤ length dst.old }
     ensures bound { result ≤ to + 3 }
     ensures written { Appended dst.old dst.new to result (entry_text entry) }
     ensures len { length dst.new ≡ length dst.old }
 {
-    u8x4::from_array(entry.to_le_bytes()).copy_to_slice(&mut dst[to..]);
+    Simd::<u32, 1>::from_array([entry])
+        .to_le_bytes()
+        .copy_to_slice(&mut dst[to..]);
     to + (entry >> 24) as usize % 4
 }
 
-/// Writes the units, each as a scalar, as UTF-8 from `at` on, and answers the place behind it. A caller asks before that none
-/// is a surrogate. It may write over what lies behind the text.
+/// Writes the units, each as a scalar, as UTF-8 from `at` on, and answers the place behind it. A
+/// caller asks before that none is a surrogate. It may write over what lies behind the text.
 #[inline(always)]
 pub fn utf16_to_utf8_block(units: u16x8, dst: &mut [u8], at: usize) -> usize
     requires { at + 25 ≤ length dst.old }
@@ -45,6 +50,22 @@ pub fn utf16_to_utf8_block(units: u16x8, dst: &mut [u8], at: usize) -> usize
     ensures len { length dst.new ≡ length dst.old }
 {
     let entries = entries(units);
+    let mut to = at;
+    for i in 0..8 {
+        to = append_entry(entries[i], dst, to);
+    }
+    to
+}
+
+/// Writes the texts of eight entries, one after another from `at` on, and answers the place behind
+/// them. It may write over what lies behind them.
+#[inline(always)]
+pub fn append_entries(entries: &[u32; 8], dst: &mut [u8], at: usize) -> usize
+    requires { at + 25 ≤ length dst.old }
+    ensures bound { result ≤ at + 24 }
+    ensures written { Appended dst.old dst.new at result (flat_map entry_text entries.now) }
+    ensures len { length dst.new ≡ length dst.old }
+{
     let mut to = at;
     for i in 0..8 {
         to = append_entry(entries[i], dst, to);
