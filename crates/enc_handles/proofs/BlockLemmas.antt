@@ -1,5 +1,5 @@
 -- Units that are moved block by block.
-use Rattle.std.proofs.Common.{cond, get_or, get_or-take, ◌≡◌, ℕ, zero, suc, ◌+◌, ◌-◌, ◌*◌, ◌<◌, ◌≤◌, ◌⊎◌, inl, inr, Bool, true, false, ◌||◌, Fits, w16, List, [], ◌∷◌, ◌++◌, length, take, drop, refl, sym, ap, ◌∙◌, arith, length-append, length-take, length-drop, length-take-le, take-add}
+use Rattle.std.proofs.Common.{cond, get_or, get_or-take, ◌≡◌, ℕ, zero, suc, ◌+◌, ◌-◌, ◌*◌, ◌<◌, ◌≤◌, inl, inr, Bool, true, false, ◌||◌, Fits, w16, List, [], ◌∷◌, ◌++◌, length, take, drop, refl, sym, ap, ◌∙◌, arith, length-append, length-take, length-drop, take-add}
 use Rattle.std.proofs.lemmas.Bool.{cases_lt}
 use Rattle.std.proofs.lemmas.Bool.Decides.{nat_tests}
 use Rattle.std.proofs.lemmas.Grind.{flat_map-append}
@@ -16,7 +16,6 @@ use Rattle.enc_strides.specs.Lanes.{is_surrogate}
 use Rattle.enc_strides.specs.Utf8.{Appended}
 use Rattle.enc_handles.specs.Copies.{HasRoomBeforeEach, MovesUnits, MovesFrom, MovesScalars}
 use Rattle.enc_handles.specs.Rooms.{bmp_fits_utf8}
-use Rattle.enc_handles.specs.UnitSlice.{Puts}
 use Rattle.enc_handles.specs.Utf16.{is_lead, encode_utf16_all, bmp_len, HasScalarAt, WindowFits}
 use Rattle.enc_handles.specs.Utf16 as utf16
 use Rattle.enc_handles.specs.Utf8.{AreScalars, text_of}

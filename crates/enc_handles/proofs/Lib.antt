@@ -1,13 +1,17 @@
 pub mod AsciiLemmas
 pub mod BlockLemmas
+pub mod CharLemmas
 pub mod CodeUnits
 pub mod CopyParts
 pub mod CopyUtf16
 pub mod CopyUtf8
+pub mod EntryLemmas
 pub mod Fronts
 pub mod Longest
 pub mod LoopLemmas
+pub mod NarrowLemmas
 pub mod PutLemmas
+pub mod ReadBack
 pub mod Sequences
 pub mod Surrogates
 pub mod TextLemmas

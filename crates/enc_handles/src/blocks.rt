@@ -23,8 +23,9 @@ fn utf8_block(block: u16x8, dst: &mut [u8], at: usize) -> Option<usize>
     Some(utf16_to_utf8_block(block, dst, at))
 }
 
-// Writes units from `from` on as UTF-8 at `at` and behind it, block after block, up to one with a surrogate or for want of
-// units or room, and answers how many they are and the place behind their text.
+// Writes units from `from` on as UTF-8 at `at` and behind it, block after block, up to one with a
+// surrogate or for want of units or room, and answers how many they are and the place behind their
+// text.
 pub(crate) fn move_utf8<E: Endian>(
     units: &UnalignedU16Slice,
     from: usize,
@@ -33,7 +34,8 @@ pub(crate) fn move_utf8<E: Endian>(
 ) -> (usize, usize)
     requires at { at ≤ length dst.old }
     requires from { from ≤ length (units_in E.OPPOSITE_ENDIAN units.now) }
-    ensures { MovesFrom encode_utf8 4 (units_in E.OPPOSITE_ENDIAN units.now) dst.old dst.new at from result }
+    ensures { MovesFrom encode_utf8 4 (units_in E.OPPOSITE_ENDIAN units.now) dst.old dst.new at from
+        result }
 {
     let mut read = from;
     let mut end = at;
@@ -70,7 +72,8 @@ pub(crate) fn move_utf16<E: Endian>(
 ) -> (usize, usize)
     requires at { at ≤ length dst.old }
     requires from { from ≤ length (units_in E.OPPOSITE_ENDIAN units.now) }
-    ensures { MovesFrom encode_utf16 0 (units_in E.OPPOSITE_ENDIAN units.now) dst.old dst.new at from result }
+    ensures { MovesFrom encode_utf16 0 (units_in E.OPPOSITE_ENDIAN units.now) dst.old dst.new at
+        from result }
 {
     let mut read = from;
     let mut end = at;

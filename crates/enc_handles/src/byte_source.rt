@@ -51,7 +51,8 @@ impl<B: ByteSlice> ByteSourceOver<B> {
     // Reads on until `rest` bytes are left.
     pub(crate) fn read_until(&mut self, rest: usize)
         requires { rest ≤ length (left (reading self.old)) }
-        ensures { reading self.new ≡ after_reading (reading self.old) (length (left (reading self.old)) - rest) }
+        ensures { reading self.new ≡ after_reading (reading self.old)
+            (length (left (reading self.old)) - rest) }
     {
         self.pos = self.slice.as_bytes().len() - rest;
     }
@@ -76,11 +77,15 @@ impl<B: ByteSlice> ByteSourceOver<B> {
 
     /// A handle to read the next byte, or `Full` with the place where none is left.
     pub fn check_available<'b>(&'b mut self) -> Space<ByteReadOver<'b, B>>
-        ensures* rests { sem 𝓛 (RestsIfFull (the_row B.row B.ByteSlice) self.entry (λ h. (read_source h).ghost_name) result (λ n. n ≡ self.old)) }
-        ensures available { IsAvailable result ↔ ((reading self.old).place < length (reading self.old).items) }
-        ensures same_reference { IfAvailable result (λ h. (read_source h).ghost_name ≡ self.entry.ghost_name) }
+        ensures* rests { sem 𝓛 (RestsIfFull (the_row B.row B.ByteSlice) self.entry
+            (λ h. (read_source h).ghost_name) result (λ n. n ≡ self.old)) }
+        ensures available { IsAvailable result ↔ ((reading self.old).place < length
+            (reading self.old).items) }
+        ensures same_reference { IfAvailable result
+            (λ h. (read_source h).ghost_name ≡ self.entry.ghost_name) }
         ensures same_source { IfAvailable result (λ h. (read_source h).now ≡ self.old) }
-        ensures element { IfAvailable result (λ h. (reading (read_source h).now).place < length (reading (read_source h).now).items) }
+        ensures element { IfAvailable result (λ h. (reading (read_source h).now).place < length
+            (reading (read_source h).now).items) }
         ensures full { IfFull result (λ place. place ≡ (reading self.old).place) }
     {
         if self.pos < self.slice.as_bytes().len() {
@@ -108,10 +113,13 @@ impl<'a, B: ByteSlice> ByteReadOver<'a, B> {
 
     /// Reads the byte.
     pub fn read(self) -> (u8, &'a mut ByteSourceOver<B>)
-        requires { (reading (read_source self).now).place < length (reading (read_source self).now).items }
-        ensures byte { result.0 ≡ slice_index (reading (read_source self.entry).now).items (reading (read_source self.entry).now).place }
+        requires { (reading (read_source self).now).place < length
+            (reading (read_source self).now).items }
+        ensures byte { result.0 ≡ slice_index (reading (read_source self.entry).now).items
+            (reading (read_source self.entry).now).place }
         ensures same_reference { result.1.ghost_name ≡ (read_source self.entry).ghost_name }
-        ensures moved { reading result.1.now ≡ after_reading (reading (read_source self.entry).now) 1 }
+        ensures moved { reading result.1.now ≡ after_reading (reading (read_source self.entry).now)
+            1 }
     {
         let source = self.source;
         let byte = source.slice.as_bytes()[source.pos];

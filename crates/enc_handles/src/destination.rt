@@ -1,7 +1,8 @@
 //! Destinations for text, in UTF-8 and in UTF-16.
-ghost use Rattle.std.specs.Prelude.{◌≡◌, ◌+◌, ◌-◌, ◌<◌, ◌≤◌, ◌↔◌, [], ◌∷◌, length, List, ℕ, IsTrue, encode_utf8, slice_index, drop, IsOk, IfOk, IfErr, IfSome, IfNone, OnOk, OnErr};
+ghost use Rattle.std.specs.Prelude.{◌≡◌, ◌+◌, ◌-◌, ◌<◌, ◌≤◌, ◌↔◌, [], ◌∷◌, length, true, false, List, ℕ, IsTrue, encode_utf8, slice_index, drop, IsOk, IfOk, IfErr, IfSome, IfNone, OnOk, OnErr};
 ghost use Rattle.enc_handles.specs.Ascii.{ascii_len, moved_len, moved_text, stop_result, GoesOn};
 ghost use Rattle.enc_handles.specs.Copies.{Copied, CopiesUtf8, CopiesUnits, CopiesUtf16, MovesScalars};
+ghost use Rattle.enc_handles.specs.Entries.{WritesEntry, WritesEntries};
 ghost use Rattle.enc_handles.specs.Unaligned.{units_in};
 ghost use Rattle.enc_handles.specs.Reading.{left, after_reading};
 ghost use Rattle.enc_handles.specs.ByteSource.{reading};
@@ -43,20 +44,28 @@ pub trait Destination: Drop {
 
     /// A handle exactly where any scalar up to U+FFFF fits, else `Full` with the elements written.
     fn check_space_bmp<'b>(&'b mut self) -> Space<BmpRoom<'b, Self>>
-        ensures* rests { sem 𝓛 (RestsIfFull Self.row self.entry (λ room. (bmp_destination room).ghost_name) result (λ n. n ≡ self.old)) }
+        ensures* rests { sem 𝓛 (RestsIfFull Self.row self.entry
+            (λ room. (bmp_destination room).ghost_name) result (λ n. n ≡ self.old)) }
         ensures available { IsAvailable result ↔ (bmp_room ≤ (state self.old).free) }
-        ensures same_reference { IfAvailable result (λ room. (bmp_destination room).ghost_name ≡ self.entry.ghost_name) }
-        ensures same_destination { IfAvailable result (λ room. (bmp_destination room).now ≡ self.old) }
-        ensures room { IfAvailable result (λ room. bmp_room ≤ (state (bmp_destination room).now).free) }
+        ensures same_reference { IfAvailable result
+            (λ room. (bmp_destination room).ghost_name ≡ self.entry.ghost_name) }
+        ensures same_destination { IfAvailable result
+            (λ room. (bmp_destination room).now ≡ self.old) }
+        ensures room { IfAvailable result (λ room. bmp_room
+            ≤ (state (bmp_destination room).now).free) }
         ensures full { IfFull result (λ place. place ≡ length (state self.old).text) };
 
     /// A handle exactly where any scalar fits, else `Full` with the elements written.
     fn check_space_astral<'b>(&'b mut self) -> Space<AstralRoom<'b, Self>>
-        ensures* rests { sem 𝓛 (RestsIfFull Self.row self.entry (λ room. (astral_destination room).ghost_name) result (λ n. n ≡ self.old)) }
+        ensures* rests { sem 𝓛 (RestsIfFull Self.row self.entry
+            (λ room. (astral_destination room).ghost_name) result (λ n. n ≡ self.old)) }
         ensures available { IsAvailable result ↔ (astral_room ≤ (state self.old).free) }
-        ensures same_reference { IfAvailable result (λ room. (astral_destination room).ghost_name ≡ self.entry.ghost_name) }
-        ensures same_destination { IfAvailable result (λ room. (astral_destination room).now ≡ self.old) }
-        ensures room { IfAvailable result (λ room. astral_room ≤ (state (astral_destination room).now).free) }
+        ensures same_reference { IfAvailable result
+            (λ room. (astral_destination room).ghost_name ≡ self.entry.ghost_name) }
+        ensures same_destination { IfAvailable result
+            (λ room. (astral_destination room).now ≡ self.old) }
+        ensures room { IfAvailable result (λ room. astral_room
+            ≤ (state (astral_destination room).now).free) }
         ensures full { IfFull result (λ place. place ≡ length (state self.old).text) };
 
     /// Writes a scalar up to U+FFFF.
@@ -72,71 +81,95 @@ pub trait Destination: Drop {
         requires room { length (encode astral) ≤ (state self.old).free }
         ensures { state self.new ≡ after_writing (state self.old) (encode astral) };
 
-    /// Moves ASCII up to the first other byte or the end of the source or the room. Where another byte is next
-    /// and any scalar up to U+FFFF fits behind the ASCII, it is read, and comes with a handle for its text.
+    /// Moves ASCII up to the first other byte or the end of the source or the room. Where another
+    /// byte is next and any scalar up to U+FFFF fits behind the ASCII, it is read, and comes with a
+    /// handle for its text.
     fn copy_ascii_from_check_space_bmp<'b, B: ByteSlice>(
         &'b mut self,
         source: &mut ByteSourceOver<B>,
     ) -> CopyAsciiResult<(DecoderResult, usize, usize), (u8, BmpRoom<'b, Self>)>
-        ensures* rests { sem 𝓛 (RestsIfStop Self.row self.entry (λ more. (bmp_destination more.1).ghost_name) result
+        ensures* rests { sem 𝓛 (RestsIfStop Self.row self.entry
+            (λ more. (bmp_destination more.1).ghost_name) result
             (λ n. state n ≡ after_writing (state self.old) (moved_text encode (left (reading source.old)) (state self.old).free))) }
-        ensures goes_on { IsGoOn result ↔ GoesOn (left (reading source.old)) (state self.old).free bmp_room }
+        ensures goes_on { IsGoOn result ↔ GoesOn (left (reading source.old)) (state self.old).free
+            bmp_room }
 
         // A byte past ASCII: it is read, and the handle is of the destination behind the ASCII.
-        ensures byte { IfGoOn result (λ more. more.0 ≡ slice_index (left (reading source.old)) (ascii_len (left (reading source.old)))) }
+        ensures byte { IfGoOn result (λ more. more.0
+            ≡ slice_index (left (reading source.old)) (ascii_len (left (reading source.old)))) }
         ensures past_ascii { IfGoOn result (λ more. 0x80 ≤ more.0) }
-        ensures read { IfGoOn result (λ _. reading source.new ≡ after_reading (reading source.old) (ascii_len (left (reading source.old)) + 1)) }
-        ensures same_reference { IfGoOn result (λ more. (bmp_destination more.1).ghost_name ≡ self.entry.ghost_name) }
+        ensures read { IfGoOn result (λ _. reading source.new
+            ≡ after_reading (reading source.old) (ascii_len (left (reading source.old)) + 1)) }
+        ensures same_reference { IfGoOn result (λ more. (bmp_destination more.1).ghost_name
+            ≡ self.entry.ghost_name) }
         ensures room { IfGoOn result (λ more. bmp_room ≤ (state (bmp_destination more.1).now).free) }
         ensures text { IfGoOn result (λ more. state (bmp_destination more.1).now
-            ≡ after_writing (state self.old) (moved_text encode (left (reading source.old)) (state self.old).free)) }
+            ≡ after_writing (state self.old) (moved_text encode (left (reading source.old))
+            (state self.old).free)) }
 
         // The end of the source or of the room: the places, and which it was.
         ensures stopped { IfStop result (λ stop. reading source.new
-            ≡ after_reading (reading source.old) (moved_len (left (reading source.old)) (state self.old).free)) }
-        ensures cause { IfStop result (λ stop. stop.0 ≡ stop_result (left (reading source.old)) (state self.old).free) }
+            ≡ after_reading (reading source.old) (moved_len (left (reading source.old))
+            (state self.old).free)) }
+        ensures cause { IfStop result (λ stop. stop.0
+            ≡ stop_result (left (reading source.old)) (state self.old).free) }
         ensures places { IfStop result (λ stop. (stop.1 ≡ (reading source.new).place)
-            × (stop.2 ≡ length (after_writing (state self.old) (moved_text encode (left (reading source.old)) (state self.old).free)).text)) };
+            × (stop.2 ≡ length (after_writing (state self.old)
+            (moved_text encode (left (reading source.old)) (state self.old).free)).text)) };
 
-    /// Moves ASCII up to the first other byte or the end of the source or the room. Where another byte is next
-    /// and any scalar fits behind the ASCII, it is read, and comes with a handle for its text.
+    /// Moves ASCII up to the first other byte or the end of the source or the room. Where another
+    /// byte is next and any scalar fits behind the ASCII, it is read, and comes with a handle for
+    /// its text.
     fn copy_ascii_from_check_space_astral<'b, B: ByteSlice>(
         &'b mut self,
         source: &mut ByteSourceOver<B>,
     ) -> CopyAsciiResult<(DecoderResult, usize, usize), (u8, AstralRoom<'b, Self>)>
-        ensures* rests { sem 𝓛 (RestsIfStop Self.row self.entry (λ more. (astral_destination more.1).ghost_name) result
+        ensures* rests { sem 𝓛 (RestsIfStop Self.row self.entry
+            (λ more. (astral_destination more.1).ghost_name) result
             (λ n. state n ≡ after_writing (state self.old) (moved_text encode (left (reading source.old)) (state self.old).free))) }
-        ensures goes_on { IsGoOn result ↔ GoesOn (left (reading source.old)) (state self.old).free astral_room }
+        ensures goes_on { IsGoOn result ↔ GoesOn (left (reading source.old)) (state self.old).free
+            astral_room }
 
         // A byte past ASCII: it is read, and the handle is of the destination behind the ASCII.
-        ensures byte { IfGoOn result (λ more. more.0 ≡ slice_index (left (reading source.old)) (ascii_len (left (reading source.old)))) }
+        ensures byte { IfGoOn result (λ more. more.0
+            ≡ slice_index (left (reading source.old)) (ascii_len (left (reading source.old)))) }
         ensures past_ascii { IfGoOn result (λ more. 0x80 ≤ more.0) }
-        ensures read { IfGoOn result (λ _. reading source.new ≡ after_reading (reading source.old) (ascii_len (left (reading source.old)) + 1)) }
-        ensures same_reference { IfGoOn result (λ more. (astral_destination more.1).ghost_name ≡ self.entry.ghost_name) }
-        ensures room { IfGoOn result (λ more. astral_room ≤ (state (astral_destination more.1).now).free) }
+        ensures read { IfGoOn result (λ _. reading source.new
+            ≡ after_reading (reading source.old) (ascii_len (left (reading source.old)) + 1)) }
+        ensures same_reference { IfGoOn result (λ more. (astral_destination more.1).ghost_name
+            ≡ self.entry.ghost_name) }
+        ensures room { IfGoOn result (λ more. astral_room
+            ≤ (state (astral_destination more.1).now).free) }
         ensures text { IfGoOn result (λ more. state (astral_destination more.1).now
-            ≡ after_writing (state self.old) (moved_text encode (left (reading source.old)) (state self.old).free)) }
+            ≡ after_writing (state self.old) (moved_text encode (left (reading source.old))
+            (state self.old).free)) }
 
         // The end of the source or of the room: the places, and which it was.
         ensures stopped { IfStop result (λ stop. reading source.new
-            ≡ after_reading (reading source.old) (moved_len (left (reading source.old)) (state self.old).free)) }
-        ensures cause { IfStop result (λ stop. stop.0 ≡ stop_result (left (reading source.old)) (state self.old).free) }
+            ≡ after_reading (reading source.old) (moved_len (left (reading source.old))
+            (state self.old).free)) }
+        ensures cause { IfStop result (λ stop. stop.0
+            ≡ stop_result (left (reading source.old)) (state self.old).free) }
         ensures places { IfStop result (λ stop. (stop.1 ≡ (reading source.new).place)
-            × (stop.2 ≡ length (after_writing (state self.old) (moved_text encode (left (reading source.old)) (state self.old).free)).text)) };
+            × (stop.2 ≡ length (after_writing (state self.old)
+            (moved_text encode (left (reading source.old)) (state self.old).free)).text)) };
 
     /// Moves the longest front of whole well-formed UTF-8 sequences whose text fits the room.
     fn copy_utf8_up_to_invalid_from<B: ByteSlice>(&mut self, source: &mut ByteSourceOver<B>)
-        ensures { CopiesUtf8 encode (reading source.old) (reading source.new) (state self.old) (state self.new) };
+        ensures { CopiesUtf8 encode (reading source.old) (reading source.new) (state self.old)
+            (state self.new) };
 
     /// How much room a copy of UTF-16 asks for before each scalar: four bytes, or nothing.
     ghost utf16_room: { ℕ };
 
-    /// How many of so many code units a copy of UTF-16 takes, for a room: all, or as many as are free.
+    /// How many of so many code units a copy of UTF-16 takes, for a room: all, or as many as are
+    /// free.
     ghost utf16_taken: { ℕ → ℕ → ℕ };
 
-    /// Moves code units, in the order of `E`, of the window that `utf16_window` describes: the whole units that are
-    /// left, for UTF-16 no more than fit, without a leading surrogate at the end. Stops at the window's end or for
-    /// want of room with `None`, or behind an unpaired surrogate, which it reads, with the places.
+    /// Moves code units, in the order of `E`, of the window that `utf16_window` describes: the
+    /// whole units that are left, for UTF-16 no more than fit, without a leading surrogate at the
+    /// end. Stops at the window's end or for want of room with `None`, or behind an unpaired
+    /// surrogate, which it reads, with the places.
     fn copy_utf16_from<E: Endian, B: ByteSlice>(
         &mut self,
         source: &mut ByteSourceOver<B>,
@@ -177,7 +210,12 @@ impl<'a> DestinationOver<&'a mut [u8]> {
 
     /// A destination that has written nothing, with all of `dst` as its room.
     pub fn new(dst: &'a mut [u8]) -> Utf8Destination<'a>
-        ensures { writing result ≡ record { text = []; free = length dst.old; buffer = dst.entry.ghost_name } }
+        ensures { writing result ≡ record {
+          text = [];
+          free = length dst.old;
+          buffer =
+              dst.entry.ghost_name;
+        } }
     {
         DestinationOver { slice: dst, pos: 0 }
     }
@@ -188,7 +226,8 @@ impl<'a> DestinationOver<&'a mut [u8]> {
         requires lead { IsTrue (is_lead high) }
         requires trail { IsTrue (is_trail low) }
         requires room { 4 ≤ (writing self.old).free }
-        ensures { writing self.new ≡ after_writing (writing self.old) (encode_utf8 (pair_scalar high low)) }
+        ensures { writing self.new ≡ after_writing (writing self.old)
+            (encode_utf8 (pair_scalar high low)) }
     {
         self.put_astral(scalar_of_pair(high, low));
     }
@@ -199,7 +238,12 @@ impl<'a> DestinationOver<&'a mut [u16]> {
 
     /// A destination that has written nothing, with all of `dst` as its room.
     pub fn new(dst: &'a mut [u16]) -> Utf16Destination<'a>
-        ensures { writing result ≡ record { text = []; free = length dst.old; buffer = dst.entry.ghost_name } }
+        ensures { writing result ≡ record {
+          text = [];
+          free = length dst.old;
+          buffer =
+              dst.entry.ghost_name;
+        } }
     {
         DestinationOver { slice: dst, pos: 0 }
     }
@@ -207,6 +251,36 @@ impl<'a> DestinationOver<&'a mut [u16]> {
 
 impl<S: UnitSlice> DestinationOver<S> {
     ghost use Rattle.enc_handles.specs.Destination.{writing};
+
+    /// Writes the scalars of eight entries (`entry::entry_of`), and answers whether it did: not
+    /// always where there is room for their text alone, and never in UTF-16.
+    #[inline(always)]
+    pub fn write_entries(&mut self, entries: &[u32; 8]) -> bool
+        ensures written { result ≡ true → WritesEntries S.encode (writing self.old)
+            (writing self.new) entries.now }
+        ensures stays { result ≡ false → writing self.new ≡ writing self.old }
+    {
+        let Some(end) = self.slice.put_entries_at(self.pos, entries) else {
+            return false;
+        };
+        self.pos = end;
+        true
+    }
+
+    /// Writes the scalar of an entry (`entry::entry_of`), and answers whether it did: not always
+    /// where there is room for its text alone, and never in UTF-16.
+    #[inline(always)]
+    pub fn write_entry(&mut self, entry: u32) -> bool
+        ensures written { result ≡ true → WritesEntry S.encode (writing self.old) (writing self.new)
+            entry }
+        ensures stays { result ≡ false → writing self.new ≡ writing self.old }
+    {
+        let Some(end) = self.slice.put_entry_at(self.pos, entry) else {
+            return false;
+        };
+        self.pos = end;
+        true
+    }
 
     // Writes a scalar.
     fn put_scalar(&mut self, code: u32)
@@ -221,13 +295,15 @@ impl<S: UnitSlice> DestinationOver<S> {
         }
     }
 
-    // Writes the text of the units at `read` and behind it, of many or of one scalar, and answers the place of the next
-    // unit, or `None` where an unpaired surrogate stands there.
+    // Writes the text of the units at `read` and behind it, of many or of one scalar, and answers
+    // the place of the next unit, or `None` where an unpaired surrogate stands there.
     fn move_units<E: Endian>(&mut self, units: &UnalignedU16Slice, read: usize) -> Option<usize>
         requires some { read < length (units_in E.OPPOSITE_ENDIAN units.now) }
         requires room { S.utf16_room ≤ (writing self.old).free }
-        requires fits { WindowFits S.encode S.utf16_room (drop read (units_in E.OPPOSITE_ENDIAN units.now)) (writing self.old).free }
-        ensures moved { IfSome result (λ next. MovesScalars S.encode S.utf16_room (units_in E.OPPOSITE_ENDIAN units.now) (writing self.old) (writing self.new) read next) }
+        requires fits { WindowFits S.encode S.utf16_room
+            (drop read (units_in E.OPPOSITE_ENDIAN units.now)) (writing self.old).free }
+        ensures moved { IfSome result (λ next. MovesScalars S.encode S.utf16_room
+            (units_in E.OPPOSITE_ENDIAN units.now) (writing self.old) (writing self.new) read next) }
         ensures unpaired { IfNone result (BeginsNoPair (units_in E.OPPOSITE_ENDIAN units.now) read) }
         ensures stays { IfNone result (writing self.new ≡ writing self.old) }
     {
@@ -243,10 +319,13 @@ impl<S: UnitSlice> DestinationOver<S> {
         Some(read + count)
     }
 
-    // Writes the text of code units, and answers how many it read and whether an unpaired surrogate was the last.
+    // Writes the text of code units, and answers how many it read and whether an unpaired surrogate
+    // was the last.
     fn copy_units<E: Endian>(&mut self, units: UnalignedU16Slice) -> (usize, bool)
-        requires { WindowFits S.encode S.utf16_room (units_in E.OPPOSITE_ENDIAN units) (writing self.old).free }
-        ensures { CopiesUnits S.encode (units_in E.OPPOSITE_ENDIAN units.entry) S.utf16_room (writing self.old) (writing self.new) result.0 result.1 }
+        requires { WindowFits S.encode S.utf16_room (units_in E.OPPOSITE_ENDIAN units)
+            (writing self.old).free }
+        ensures { CopiesUnits S.encode (units_in E.OPPOSITE_ENDIAN units.entry) S.utf16_room
+            (writing self.old) (writing self.new) result.0 result.1 }
     {
         let needed = self.slice.room_for_utf16();
         let len = units.len();
@@ -262,7 +341,8 @@ impl<S: UnitSlice> DestinationOver<S> {
 
     // Moves whole well-formed sequences, as many as the slice sees fit.
     fn move_front<B: ByteSlice>(&mut self, source: &mut ByteSourceOver<B>)
-        ensures { (scalars : List ℕ) × Copied S.encode (reading source.old) (reading source.new) (writing self.old) (writing self.new) scalars }
+        ensures { (scalars : List ℕ) × Copied S.encode (reading source.old) (reading source.new)
+            (writing self.old) (writing self.new) scalars }
     {
         let bytes = source.rest();
         let (read, end) = self.slice.copy_utf8_at(self.pos, bytes);
@@ -278,14 +358,21 @@ impl<S: UnitSlice> DestinationOver<S> {
         needed: usize,
     ) -> Result<u8, DecoderResult>
         requires { 1 ≤ needed }
-        ensures goes_on { IsOk result ↔ GoesOn (left (reading source.old)) (writing self.old).free needed }
-        ensures byte { IfOk result (λ byte. byte ≡ slice_index (left (reading source.old)) (ascii_len (left (reading source.old)))) }
+        ensures goes_on { IsOk result ↔ GoesOn (left (reading source.old)) (writing self.old).free
+            needed }
+        ensures byte { IfOk result (λ byte. byte ≡ slice_index (left (reading source.old))
+            (ascii_len (left (reading source.old)))) }
         ensures past_ascii { IfOk result (λ byte. 0x80 ≤ byte) }
-        ensures read { OnOk result (reading source.new ≡ after_reading (reading source.old) (ascii_len (left (reading source.old)) + 1)) }
-        ensures stopped { OnErr result (reading source.new ≡ after_reading (reading source.old) (moved_len (left (reading source.old)) (writing self.old).free)) }
-        ensures cause { IfErr result (λ result. result ≡ stop_result (left (reading source.old)) (writing self.old).free) }
+        ensures read { OnOk result (reading source.new
+            ≡ after_reading (reading source.old) (ascii_len (left (reading source.old)) + 1)) }
+        ensures stopped { OnErr result (reading source.new
+            ≡ after_reading (reading source.old) (moved_len (left (reading source.old))
+            (writing self.old).free)) }
+        ensures cause { IfErr result (λ result. result
+            ≡ stop_result (left (reading source.old)) (writing self.old).free) }
         ensures room { OnOk result (needed ≤ (writing self.new).free) }
-        ensures text { writing self.new ≡ after_writing (writing self.old) (moved_text S.encode (left (reading source.old)) (writing self.old).free) }
+        ensures text { writing self.new ≡ after_writing (writing self.old)
+            (moved_text S.encode (left (reading source.old)) (writing self.old).free) }
     {
         let bytes = source.rest();
         let end = self.slice.copy_ascii_at(self.pos, bytes);

@@ -6,7 +6,8 @@ pub trait Endian {
     /// Whether the more significant byte comes first.
     ghost OPPOSITE_ENDIAN: { Bool };
 
-    /// Whether the order is the opposite of the machine's, which is little-endian: true for big-endian.
+    /// Whether the order is the opposite of the machine's, which is little-endian: true for
+    /// big-endian.
     const OPPOSITE_ENDIAN: bool;
 }
 

@@ -1,19 +1,26 @@
 //! Sources, destinations and room handles.
 #![tactic(auto)]
 
+mod ascii_to_bytes;
+mod basic_latin;
 mod blocks;
+pub mod byte_buffer;
+pub mod byte_destination;
 pub mod byte_slice;
 pub mod byte_source;
+pub mod char_source;
 pub mod destination;
 pub mod endian;
-#[cfg(test)]
-mod pattern;
+pub mod entry;
+pub mod laws;
 pub mod results;
 pub mod room;
 pub mod space;
 #[cfg(test)]
 mod tests;
+pub mod text_slice;
 pub mod unaligned;
+pub mod unicode;
 pub mod unit_slice;
 mod utf16;
 mod utf8;

@@ -44,7 +44,8 @@ impl<'a, D: Destination> BmpRoom<'a, D> {
         requires value { ascii < 0x80 }
         requires room { D.bmp_room ≤ (D.state (bmp_destination self).now).free }
         ensures same_reference { result.ghost_name ≡ (bmp_destination self.entry).ghost_name }
-        ensures text { D.state result.now ≡ after_writing (D.state (bmp_destination self.entry).now) (D.encode ascii) }
+        ensures text { D.state result.now ≡ after_writing (D.state (bmp_destination self.entry).now)
+            (D.encode ascii) }
     {
         self.write_bmp(u16::from(ascii))
     }
@@ -54,7 +55,8 @@ impl<'a, D: Destination> BmpRoom<'a, D> {
         requires value { IsScalar bmp }
         requires room { D.bmp_room ≤ (D.state (bmp_destination self).now).free }
         ensures same_reference { result.ghost_name ≡ (bmp_destination self.entry).ghost_name }
-        ensures text { D.state result.now ≡ after_writing (D.state (bmp_destination self.entry).now) (D.encode bmp) }
+        ensures text { D.state result.now ≡ after_writing (D.state (bmp_destination self.entry).now)
+            (D.encode bmp) }
     {
         let dest = self.dest;
         dest.put_bmp(bmp);
@@ -67,7 +69,8 @@ impl<'a, D: Destination> BmpRoom<'a, D> {
         requires scalar { IsScalar bmp }
         requires room { D.bmp_room ≤ (D.state (bmp_destination self).now).free }
         ensures same_reference { result.ghost_name ≡ (bmp_destination self.entry).ghost_name }
-        ensures text { D.state result.now ≡ after_writing (D.state (bmp_destination self.entry).now) (D.encode bmp) }
+        ensures text { D.state result.now ≡ after_writing (D.state (bmp_destination self.entry).now)
+            (D.encode bmp) }
     {
         self.write_bmp(bmp)
     }
@@ -78,7 +81,8 @@ impl<'a, D: Destination> BmpRoom<'a, D> {
         requires high { bmp < 0x800 }
         requires room { D.bmp_room ≤ (D.state (bmp_destination self).now).free }
         ensures same_reference { result.ghost_name ≡ (bmp_destination self.entry).ghost_name }
-        ensures text { D.state result.now ≡ after_writing (D.state (bmp_destination self.entry).now) (D.encode bmp) }
+        ensures text { D.state result.now ≡ after_writing (D.state (bmp_destination self.entry).now)
+            (D.encode bmp) }
     {
         self.write_bmp(bmp)
     }
@@ -89,7 +93,8 @@ impl<'a, D: Destination> BmpRoom<'a, D> {
         requires scalar { IsScalar bmp }
         requires room { D.bmp_room ≤ (D.state (bmp_destination self).now).free }
         ensures same_reference { result.ghost_name ≡ (bmp_destination self.entry).ghost_name }
-        ensures text { D.state result.now ≡ after_writing (D.state (bmp_destination self.entry).now) (D.encode bmp) }
+        ensures text { D.state result.now ≡ after_writing (D.state (bmp_destination self.entry).now)
+            (D.encode bmp) }
     {
         self.write_bmp(bmp)
     }
@@ -116,7 +121,8 @@ impl<'a, D: Destination> AstralRoom<'a, D> {
         requires value { ascii < 0x80 }
         requires room { D.astral_room ≤ (D.state (astral_destination self).now).free }
         ensures same_reference { result.ghost_name ≡ (astral_destination self.entry).ghost_name }
-        ensures text { D.state result.now ≡ after_writing (D.state (astral_destination self.entry).now) (D.encode ascii) }
+        ensures text { D.state result.now ≡ after_writing
+            (D.state (astral_destination self.entry).now) (D.encode ascii) }
     {
         self.write_bmp(u16::from(ascii))
     }
@@ -126,7 +132,8 @@ impl<'a, D: Destination> AstralRoom<'a, D> {
         requires value { IsScalar bmp }
         requires room { D.astral_room ≤ (D.state (astral_destination self).now).free }
         ensures same_reference { result.ghost_name ≡ (astral_destination self.entry).ghost_name }
-        ensures text { D.state result.now ≡ after_writing (D.state (astral_destination self.entry).now) (D.encode bmp) }
+        ensures text { D.state result.now ≡ after_writing
+            (D.state (astral_destination self.entry).now) (D.encode bmp) }
     {
         let dest = self.dest;
         dest.put_bmp(bmp);
@@ -139,7 +146,8 @@ impl<'a, D: Destination> AstralRoom<'a, D> {
         requires scalar { IsScalar bmp }
         requires room { D.astral_room ≤ (D.state (astral_destination self).now).free }
         ensures same_reference { result.ghost_name ≡ (astral_destination self.entry).ghost_name }
-        ensures text { D.state result.now ≡ after_writing (D.state (astral_destination self.entry).now) (D.encode bmp) }
+        ensures text { D.state result.now ≡ after_writing
+            (D.state (astral_destination self.entry).now) (D.encode bmp) }
     {
         self.write_bmp(bmp)
     }
@@ -150,7 +158,8 @@ impl<'a, D: Destination> AstralRoom<'a, D> {
         requires scalar { IsScalar bmp }
         requires room { D.astral_room ≤ (D.state (astral_destination self).now).free }
         ensures same_reference { result.ghost_name ≡ (astral_destination self.entry).ghost_name }
-        ensures text { D.state result.now ≡ after_writing (D.state (astral_destination self.entry).now) (D.encode bmp) }
+        ensures text { D.state result.now ≡ after_writing
+            (D.state (astral_destination self.entry).now) (D.encode bmp) }
     {
         self.write_bmp(bmp)
     }
@@ -161,7 +170,8 @@ impl<'a, D: Destination> AstralRoom<'a, D> {
         requires high { astral ≤ 0x10_FFFF }
         requires room { D.astral_room ≤ (D.state (astral_destination self).now).free }
         ensures same_reference { result.ghost_name ≡ (astral_destination self.entry).ghost_name }
-        ensures text { D.state result.now ≡ after_writing (D.state (astral_destination self.entry).now) (D.encode astral) }
+        ensures text { D.state result.now ≡ after_writing
+            (D.state (astral_destination self.entry).now) (D.encode astral) }
     {
         let dest = self.dest;
         dest.put_astral(astral);
@@ -174,7 +184,8 @@ impl<'a, D: Destination> AstralRoom<'a, D> {
         requires trail { IsTrue (is_trail low) }
         requires room { D.astral_room ≤ (D.state (astral_destination self).now).free }
         ensures same_reference { result.ghost_name ≡ (astral_destination self.entry).ghost_name }
-        ensures text { D.state result.now ≡ after_writing (D.state (astral_destination self.entry).now) (D.encode (pair_scalar high low)) }
+        ensures text { D.state result.now ≡ after_writing
+            (D.state (astral_destination self.entry).now) (D.encode (pair_scalar high low)) }
     {
         self.write_astral(scalar_of_pair(high, low))
     }
@@ -187,7 +198,9 @@ impl<'a, D: Destination> AstralRoom<'a, D> {
         requires combining_high { combining < 0x800 }
         requires room { D.astral_room ≤ (D.state (astral_destination self).now).free }
         ensures same_reference { result.ghost_name ≡ (astral_destination self.entry).ghost_name }
-        ensures text { D.state result.now ≡ after_writing (after_writing (D.state (astral_destination self.entry).now) (D.encode combined)) (D.encode combining) }
+        ensures text { D.state result.now ≡ after_writing
+            (after_writing (D.state (astral_destination self.entry).now) (D.encode combined))
+            (D.encode combining) }
     {
         let dest = self.dest;
         dest.put_bmp(combined);

@@ -3,7 +3,6 @@ use crate::byte_slice::ByteSlice;
 use crate::byte_source::{ByteSource, ByteSourceOver};
 use crate::destination::{Destination, DestinationOver, Utf8Destination, Utf16Destination};
 use crate::endian::{BigEndian, Endian, LittleEndian};
-use crate::pattern::{decode_latin1, latin1_to_utf8};
 use crate::results::DecoderResult;
 use crate::space::{CopyAsciiResult, Space};
 use crate::unaligned::UnalignedU16Slice;
@@ -205,22 +204,6 @@ fn ascii_goes_on_where_the_handle_fits(rt: HostRuntime) {
     let mut source = ByteSource::new(&[0x80]);
     let stop = stopped(wide.copy_ascii_from_check_space_astral(&mut source));
     assert_eq!(rt; stop, Some((DecoderResult::OutputFull, 0, 1)));
-}
-
-#[test]
-fn a_loop_over_both(rt: HostRuntime) {
-    let mut bytes = [0u8; 6];
-    let answer = latin1_to_utf8(&[0x61, 0xE4, 0x62, 0xFF, 0xFF], &mut bytes);
-    assert_eq!(rt; answer, (DecoderResult::OutputFull, 3, 4));
-    assert_eq!(rt; &bytes[..4], [0x61, 0xC3, 0xA4, 0x62].as_slice());
-    let mut units = [0u16; 6];
-    let mut source = ByteSource::new(&[0x61, 0xE4, 0x62, 0xFF]);
-    let mut dest = Utf16Destination::new(&mut units);
-    assert_eq!(rt;
-        decode_latin1(&mut source, &mut dest),
-        (DecoderResult::InputEmpty, 4, 4)
-    );
-    assert_eq!(rt; &units[..4], [0x61, 0xE4, 0x62, 0xFF].as_slice());
 }
 
 // How many bytes a copy of UTF-8 to UTF-8 reads, and how many it writes.
@@ -445,8 +428,8 @@ fn plain_utf8(src: &[u8], room: usize) -> usize {
     }
 }
 
-// Texts of ASCII, of each length of sequence, and malformed ones: a byte past the table, a tail alone, a surrogate, a cut
-// sequence, each before, in and behind strides.
+// Texts of ASCII, of each length of sequence, and malformed ones: a byte past the table, a tail
+// alone, a surrogate, a cut sequence, each before, in and behind strides.
 fn texts() -> [&'static [u8]; 12] {
     [
         b"",
@@ -467,11 +450,11 @@ fn texts() -> [&'static [u8]; 12] {
 #[test]
 fn fast_copies_move_what_plain_ones_do(rt: HostRuntime) {
     for text in texts() {
-        for cut in 0..81 {
+        for cut in 0..41 {
             let src = &text[..text.len().min(cut)];
-            for room in 0..81 {
-                let mut bytes = [0u8; 80];
-                let mut units = [0u16; 80];
+            for room in 0..41 {
+                let mut bytes = [0u8; 40];
+                let mut units = [0u16; 40];
                 let ascii = plain_ascii(src, room);
                 let mut narrow = &mut bytes[..room];
                 assert_eq!(rt; narrow.copy_ascii_at(0, src), ascii);

@@ -109,17 +109,21 @@ impl<'a> UnalignedU16Slice<'a> {
         moved
     }
 
-    /// Copies up to the first surrogate and answers it with its place, or `None` where there is none. What
-    /// `other` has from that place to the length of this slice is left open; what it has from there on stays.
+    /// Copies up to the first surrogate and answers it with its place, or `None` where there is
+    /// none. What `other` has from that place to the length of this slice is left open; what it has
+    /// from there on stays.
     pub fn copy_bmp_to<E: Endian>(&self, other: &mut [u16]) -> Option<(u16, usize)>
         requires { length (units_in E.OPPOSITE_ENDIAN self.now) ≤ length other.old }
         ensures found { IsSome result
             ↔ (bmp_len (units_in E.OPPOSITE_ENDIAN self.now) < length (units_in E.OPPOSITE_ENDIAN self.now)) }
         ensures surrogate { IfSome result (λ found. found.0
-            ≡ slice_index (units_in E.OPPOSITE_ENDIAN self.now) (bmp_len (units_in E.OPPOSITE_ENDIAN self.now))) }
-        ensures place { IfSome result (λ found. found.1 ≡ bmp_len (units_in E.OPPOSITE_ENDIAN self.now)) }
+            ≡ slice_index (units_in E.OPPOSITE_ENDIAN self.now)
+            (bmp_len (units_in E.OPPOSITE_ENDIAN self.now))) }
+        ensures place { IfSome result (λ found. found.1
+            ≡ bmp_len (units_in E.OPPOSITE_ENDIAN self.now)) }
         ensures copied { take (bmp_len (units_in E.OPPOSITE_ENDIAN self.now)) other.new
-            ≡ take (bmp_len (units_in E.OPPOSITE_ENDIAN self.now)) (units_in E.OPPOSITE_ENDIAN self.now) }
+            ≡ take (bmp_len (units_in E.OPPOSITE_ENDIAN self.now))
+            (units_in E.OPPOSITE_ENDIAN self.now) }
         ensures stays { drop (length (units_in E.OPPOSITE_ENDIAN self.now)) other.new
             ≡ drop (length (units_in E.OPPOSITE_ENDIAN self.now)) other.old }
     {

@@ -1,5 +1,5 @@
 //! What the text of a destination lies in, and how a scalar is written there.
-ghost use Rattle.std.specs.Prelude.{◌≡◌, ◌+◌, ◌-◌, ◌<◌, ◌≤◌, [], ◌∷◌, length, take, min, List, ℕ, encode_utf8};
+ghost use Rattle.std.specs.Prelude.{◌≡◌, ◌+◌, ◌-◌, ◌<◌, ◌≤◌, [], ◌∷◌, length, take, min, List, ℕ, encode_utf8, IfSome, IfNone};
 ghost use Rattle.std.specs.Borrow.{GName};
 ghost use Rattle.std.specs.Char.{IsScalar};
 ghost use Rattle.std.specs.Char.Escape.{encode_utf16};
@@ -7,6 +7,7 @@ ghost use Rattle.enc_handles.specs.Ascii.{moved_len};
 ghost use Rattle.enc_handles.specs.Utf16.{TakesWhatFits};
 ghost use Rattle.enc_handles.specs.Copies.{MovesFront, MovesFrom};
 ghost use Rattle.enc_handles.specs.Unaligned.{units_in};
+ghost use Rattle.enc_handles.specs.Entries.{PutsEntry, PutsEntries};
 ghost use Rattle.enc_handles.specs.UnitSlice.{Puts};
 ghost use Rattle.enc_handles.specs.Rooms.{takes_what_fits_utf8, takes_what_fits_utf16, ascii_text_utf8, ascii_text_utf16, bmp_fits_utf8, astral_fits_utf8, two_fit_utf8, bmp_fits_utf16, astral_fits_utf16, two_fit_utf16};
 
@@ -15,6 +16,7 @@ use crate::endian::Endian;
 use crate::unaligned::UnalignedU16Slice;
 use crate::utf8_parts::copy_utf8;
 use enc_strides::runs::{ascii_to_ascii, ascii_to_basic_latin};
+use enc_strides::utf8::{append_entries, append_entry};
 
 /// A slice of code units: a `&mut [u8]` for UTF-8, a `&mut [u16]` for UTF-16.
 pub trait UnitSlice: Drop {
@@ -82,8 +84,9 @@ pub trait UnitSlice: Drop {
     fn text_len(&self, code: u32) -> usize
         ensures { result ≡ length (encode code) };
 
-    /// Moves ASCII from the front of `src` to `at` and behind it, up to the first other byte or the end of
-    /// either, and answers the place behind it. What stands there and further on is left open.
+    /// Moves ASCII from the front of `src` to `at` and behind it, up to the first other byte or the
+    /// end of either, and answers the place behind it. What stands there and further on is left
+    /// open.
     fn copy_ascii_at(&mut self, at: usize, src: &[u8]) -> usize
         requires { at ≤ length (units self.old) }
         ensures end { result ≡ at + moved_len src.now (length (units self.old) - at) }
@@ -91,15 +94,17 @@ pub trait UnitSlice: Drop {
             (take (moved_len src.now (length (units self.old) - at)) src.now) }
         ensures same_buffer { buffer self.new ≡ buffer self.old };
 
-    /// Moves whole well-formed UTF-8 sequences from the front of `src` to `at` and behind it, as many as it sees fit,
-    /// and answers how many bytes they are and the place behind their text. What stands there is left open.
+    /// Moves whole well-formed UTF-8 sequences from the front of `src` to `at` and behind it, as
+    /// many as it sees fit, and answers how many bytes they are and the place behind their text.
+    /// What stands there is left open.
     fn copy_utf8_at(&mut self, at: usize, src: &[u8]) -> (usize, usize)
         requires { at ≤ length (units self.old) }
         ensures moved { MovesFront encode src.now (units self.old) (units self.new) at result }
         ensures same_buffer { buffer self.new ≡ buffer self.old };
 
-    /// Moves code units of `source` from place `from` on, none of which is a surrogate, to `at` and behind it, as many as it
-    /// sees fit, and answers how many they are and the place behind their text. What stands there is left open.
+    /// Moves code units of `source` from place `from` on, none of which is a surrogate, to `at` and
+    /// behind it, as many as it sees fit, and answers how many they are and the place behind their
+    /// text. What stands there is left open.
     fn copy_units_at<E: Endian>(
         &mut self,
         at: usize,
@@ -108,7 +113,28 @@ pub trait UnitSlice: Drop {
     ) -> (usize, usize)
         requires at { at ≤ length (units self.old) }
         requires from { from ≤ length (units_in E.OPPOSITE_ENDIAN source.now) }
-        ensures moved { MovesFrom encode utf16_room (units_in E.OPPOSITE_ENDIAN source.now) (units self.old) (units self.new) at from result }
+        ensures moved { MovesFrom encode utf16_room (units_in E.OPPOSITE_ENDIAN source.now)
+            (units self.old) (units self.new) at from result }
+        ensures same_buffer { buffer self.new ≡ buffer self.old };
+
+    /// Writes the scalars of eight entries (`entry::entry_of`) at `at` and behind it, and answers
+    /// the place behind their text, or `None` where the slice takes no entries or sees too little
+    /// room. What stands behind the text is left open.
+    fn put_entries_at(&mut self, at: usize, entries: &[u32; 8]) -> Option<usize>
+        requires { at ≤ length (units self.old) }
+        ensures moved { IfSome result (λ end. PutsEntries encode (units self.old) (units self.new)
+            at end entries.now) }
+        ensures none { IfNone result (units self.new ≡ units self.old) }
+        ensures same_buffer { buffer self.new ≡ buffer self.old };
+
+    /// Writes the scalar of an entry (`entry::entry_of`) at `at`, and answers the place behind its
+    /// text, or `None` where the slice takes no entries or sees too little room. What stands behind
+    /// the text is left open.
+    fn put_entry_at(&mut self, at: usize, entry: u32) -> Option<usize>
+        requires { at ≤ length (units self.old) }
+        ensures moved { IfSome result (λ end. PutsEntry encode (units self.old) (units self.new) at
+            end entry) }
+        ensures none { IfNone result (units self.new ≡ units self.old) }
         ensures same_buffer { buffer self.new ≡ buffer self.old };
 
     /// What a copy of UTF-16 takes fits.
@@ -263,6 +289,22 @@ impl<'a> UnitSlice for &'a mut [u8] {
         move_utf8::<E>(source, from, self, at)
     }
 
+    #[inline(always)]
+    fn put_entries_at(&mut self, at: usize, entries: &[u32; 8]) -> Option<usize> {
+        if self.len() - at < 25 {
+            return None;
+        }
+        Some(append_entries(entries, self, at))
+    }
+
+    #[inline(always)]
+    fn put_entry_at(&mut self, at: usize, entry: u32) -> Option<usize> {
+        if self.len() - at < 4 {
+            return None;
+        }
+        Some(append_entry(entry, self, at))
+    }
+
     ghost utf16_room = { 4 };
 
     ghost utf16_taken = { λ room count. count };
@@ -337,6 +379,19 @@ impl<'a> UnitSlice for &'a mut [u16] {
         from: usize,
     ) -> (usize, usize) {
         move_utf16::<E>(source, from, self, at)
+    }
+
+    #[inline(always)]
+    fn put_entries_at(&mut self, at: usize, entries: &[u32; 8]) -> Option<usize> {
+        let _ = at;
+        let _ = entries;
+        None
+    }
+
+    #[inline(always)]
+    fn put_entry_at(&mut self, at: usize, entry: u32) -> Option<usize> {
+        let _ = (at, entry);
+        None
     }
 
     ghost utf16_room = { 0 };

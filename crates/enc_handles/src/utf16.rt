@@ -7,11 +7,12 @@ use crate::endian::Endian;
 use crate::room::scalar_of_pair;
 use crate::unaligned::UnalignedU16Slice;
 
-// The scalar that stands at `i` and how many units it has, or `None` where an unpaired surrogate stands there
-// and nothing before `i` is its lead.
+// The scalar that stands at `i` and how many units it has, or `None` where an unpaired surrogate
+// stands there and nothing before `i` is its lead.
 pub(crate) fn scalar_at<E: Endian>(units: &UnalignedU16Slice, i: usize) -> Option<(u32, usize)>
     requires { i < length (units_in E.OPPOSITE_ENDIAN units.now) }
-    ensures some { IfSome result (λ found. HasScalarAt (units_in E.OPPOSITE_ENDIAN units.now) i found.0 found.1) }
+    ensures some { IfSome result (λ found. HasScalarAt (units_in E.OPPOSITE_ENDIAN units.now) i
+        found.0 found.1) }
     ensures none { IfNone result (BeginsNoPair (units_in E.OPPOSITE_ENDIAN units.now) i) }
 {
     let unit = units.unit::<E>(i);
@@ -32,7 +33,8 @@ pub(crate) fn scalar_at<E: Endian>(units: &UnalignedU16Slice, i: usize) -> Optio
 pub(crate) fn without_last_lead<'a, E: Endian>(
     units: UnalignedU16Slice<'a>,
 ) -> UnalignedU16Slice<'a>
-    ensures { units_in E.OPPOSITE_ENDIAN result ≡ without_last_lead (units_in E.OPPOSITE_ENDIAN units.entry) }
+    ensures { units_in E.OPPOSITE_ENDIAN result ≡ without_last_lead
+        (units_in E.OPPOSITE_ENDIAN units.entry) }
 {
     let mut units = units;
     let len = units.len();
@@ -50,7 +52,7 @@ pub(crate) fn is_lead(unit: u16) -> bool
 }
 
 // Whether a code unit is a trailing surrogate.
-fn is_trail(unit: u16) -> bool
+pub(crate) fn is_trail(unit: u16) -> bool
     ensures { result ≡ is_trail unit }
 {
     0xDC00 <= unit && unit <= 0xDFFF

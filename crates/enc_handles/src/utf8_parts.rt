@@ -23,7 +23,8 @@ fn valid_len(bytes: &[u8]) -> usize
     }
 }
 
-// The length without the bytes at the end that begin a longer sequence. It only saves work: nothing rests on it.
+// The length without the bytes at the end that begin a longer sequence. It only saves work: nothing
+// rests on it.
 #[inline(always)]
 fn without_cut_tail(part: &[u8]) -> usize
     requires { 0 < length part.now }
@@ -63,7 +64,8 @@ fn next_part(rest: &[u8], size: usize) -> (usize, bool)
     (len, near == rest.len() || near - len >= 4)
 }
 
-// The longest front of whole sequences where a few bytes show it: text with many malformed units costs little.
+// The longest front of whole sequences where a few bytes show it: text with many malformed units
+// costs little.
 #[inline(always)]
 fn first_look(rest: &[u8]) -> Option<usize>
     ensures longest { IfSome result (λ len. len ≡ utf8_valid_len rest.now) }

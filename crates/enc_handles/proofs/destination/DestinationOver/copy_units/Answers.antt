@@ -1,4 +1,4 @@
-use Rattle.std.proofs.Common.{◌≤◌, ◌++◌, arith}
+use Rattle.std.proofs.Common.{◌++◌}
 use Rattle.enc_handles.specs.Destination.{writing}
 use Rattle.enc_handles.specs.Unaligned.{units_in}
 use Rattle.enc_handles.proofs.CopyUtf16.{copied16_on, rest_fits}

@@ -1,7 +1,7 @@
-use Rattle.std.proofs.Common.{sym, ap, ◌∙◌, arith}
+use Rattle.std.proofs.Common.{ap, ◌∙◌, arith}
 use Rattle.enc_handles.specs.Destination.{writing}
 use Rattle.enc_handles.specs.Unaligned.{units_in}
-use Rattle.enc_handles.specs.Writing.{Writing, after_writing}
+use Rattle.enc_handles.specs.Writing.{after_writing}
 use Rattle.enc_handles.proofs.BlockLemmas.{moves_row, moves_scalar, moves_none, scalar_fits}
 use Rattle.enc_handles.proofs.destination.DestinationOver.move_units.Goals as goal
 

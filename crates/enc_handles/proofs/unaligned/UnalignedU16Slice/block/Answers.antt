@@ -1,4 +1,4 @@
-use Rattle.std.proofs.Common.{◌≡◌, true, false, List, ℕ, ap, sym, ◌∙◌, take, drop, arith}
+use Rattle.std.proofs.Common.{◌≡◌, true, false, ap, ◌∙◌, take, drop, arith}
 use Rattle.enc_handles.specs.Utf16.{code_units}
 use Rattle.enc_handles.proofs.CodeUnits.{length-window, block-within}
 use Rattle.enc_handles.proofs.unaligned.UnalignedU16Slice.block.Goals as goal
