@@ -1,6 +1,7 @@
 -- What the front of bytes tells of the unit in EUC-JP.
-use Rattle.std.proofs.Common.{◌≡◌, ℕ, ◌<◌, ◌≤◌, true, false, lt-ltb, le-ltb, List, [], ◌∷◌, ◌++◌, length, get_or, refl, ap, ◌∙◌, arith}
-use Rattle.std.specs.Prelude.{◌==◌, ◌&&◌, None}
+use Rattle.std.proofs.Common.{◌≡◌, ℕ, ◌<◌, ◌≤◌, true, false, lt-ltb, le-ltb, leb-true, List, [], ◌∷◌, ◌++◌, length, get_or, refl, ap, ◌∙◌, arith}
+use Rattle.std.specs.Prelude.{◌==◌, ◌&&◌, nat_le, None, Some}
+use Rattle.std.proofs.lemmas.Bool.{and_parts, ne_eqb}
 use Rattle.std.proofs.Math.Bool.{and-false}
 use Rattle.enc_drivers.specs.declared.unit.Mode.{Mode}
 use Rattle.enc_drivers.specs.Units.{scalar_at, malformed_at}
@@ -99,3 +100,15 @@ second_undecided p q mode front is h l f =
 pub three_front : (p q : Places) (mode : Mode) (front more : List ℕ) → BeginsSequence front → 3 ≤ length front → (get_or front 0 0 == 0x8F && in_row (get_or front 1 0)) ≡ true
     → euc_jp_unit p q mode (front ++ more) ≡ sequence_unit mode (row_scalar q (get_or front 1 0) (get_or front 2 0)) 3 (get_or front 2 0)
 three_front p q mode front more is h f = ap (euc_jp_unit p q mode) (front_of_three front more h) ∙ of_three p q mode _ _ _ _ is.high is.lead f
+
+-- two bytes of a row with a scalar in jis0208
+pub row_reads : (p q : Places) (a b code : ℕ) → in_row a ≡ true → row_scalar p a b ≡ Some code → (mode : Mode) (rest : List ℕ) → euc_jp_unit p q mode (a ∷ b ∷ rest) ≡ scalar_at mode code 2
+unfolding euc_jp_scalar
+row_reads p q a b code row e mode rest =
+    let high : 0xA1 ≤ a = leb-true 0xA1 a (and_parts (nat_le 0xA1 a) (nat_le a 0xFE) row).0 in
+    let no_8e : (a == 0x8E) ≡ false = ne_eqb a 0x8E (λ is. omega arith) in
+    let no_8f : (a == 0x8F) ≡ false = ne_eqb a 0x8F (λ is. omega arith) in
+    let lead : is_euc_jp_lead a ≡ true = rw (no_8e, no_8f) row in
+    let two : (a == 0x8F && in_row b) ≡ false = rw no_8f refl in
+    let scalar : euc_jp_scalar p a b ≡ Some code = rw no_8e e in
+    of_two p q mode a b rest (omega arith) lead two ∙ ap (λ o. sequence_unit mode o 2 b) scalar

@@ -1,6 +1,6 @@
 -- What the front of bytes tells of the unit in gb18030.
 use Rattle.std.proofs.Common.{◌≡◌, ℕ, ◌<◌, ◌≤◌, true, false, lt-ltb, le-ltb, leb-true, List, [], ◌∷◌, ◌++◌, length, get_or, refl, ap, ◌∙◌, arith}
-use Rattle.std.specs.Prelude.{nat_le}
+use Rattle.std.specs.Prelude.{nat_le, Some}
 use Rattle.std.proofs.lemmas.Bool.{and_parts, ne_eqb}
 use Rattle.enc_drivers.specs.declared.unit.Mode.{Mode}
 use Rattle.enc_drivers.specs.Units.{scalar_at, malformed_at}
@@ -145,3 +145,8 @@ no_fourth_front p q mode front more is h e f = ap (gb18030_unit p q mode) (front
 pub four_front : (p q : Places) (mode : Mode) (front more : List ℕ) → BeginsFour front → 4 ≤ length front → is_gb18030_lead (get_or front 2 0) ≡ true → is_gb18030_digit (get_or front 3 0) ≡ true
     → gb18030_unit p q mode (front ++ more) ≡ whole_unit mode (q (ranges_place (get_or front 0 0) (get_or front 1 0) (get_or front 2 0) (get_or front 3 0))) 4
 four_front p q mode front more is h e f = ap (gb18030_unit p q mode) (front_of_four front more h) ∙ of_four p q mode _ _ _ _ _ is.lead is.digit e f
+
+-- two bytes with a scalar
+pub two_reads : (p q : Places) (a b code : ℕ) → is_gb18030_lead a ≡ true → is_gb18030_digit b ≡ false → gb18030_scalar p a b ≡ Some code
+    → (mode : Mode) (rest : List ℕ) → gb18030_unit p q mode (a ∷ b ∷ rest) ≡ scalar_at mode code 2
+two_reads p q a b code lead digit e mode rest = of_two p q mode a b rest lead digit ∙ ap (λ o. sequence_unit mode o 2 b) e

@@ -1,10 +1,12 @@
 -- What the front of bytes tells of the unit in codes of a lead and a byte behind it.
-use Rattle.std.proofs.Common.{◌≡◌, ℕ, ◌<◌, ◌≤◌, true, false, List, [], ◌∷◌, ◌++◌, length, get_or, refl, ap, ◌∙◌, arith}
+use Rattle.std.proofs.Common.{◌≡◌, ℕ, ◌<◌, ◌≤◌, true, false, List, [], ◌∷◌, ◌++◌, length, get_or, Option, Some, None, refl, ap, sym, ◌∙◌, arith}
 use Rattle.std.proofs.lemmas.List.Elements.{All-nil, All-cons}
+use Rattle.std.specs.Prelude.{IfSome}
 use Rattle.enc_drivers.specs.declared.unit.Item.{Item}
 use Rattle.enc_drivers.specs.declared.unit.Item.TheVariants.{One, Two, Malformed, Silent}
 use Rattle.enc_drivers.specs.declared.unit.Mode.{Mode}
-use Rattle.enc_drivers.specs.Units.{malformed_at}
+use Rattle.enc_drivers.specs.Bulk.{BeginsWithScalar, IsScalarOf}
+use Rattle.enc_drivers.specs.Units.{malformed_at, scalar_at}
 use Rattle.enc_drivers.specs.Steps.{IsUndecided}
 use Rattle.enc_drivers.specs.Codes.Pairs.{Pairs, both_len, pairs_unit}
 
@@ -55,3 +57,21 @@ lead_undecided pairs mode (a ∷ []) h l lead = record {
       absurd (omega arith);
 }
 lead_undecided pairs mode (a ∷ b ∷ front) h l lead = absurd (omega arith)
+
+-- a scalar of one byte, and of a lead and the byte behind it
+pub alone_scalar : (pairs : Pairs) (bytes : List ℕ) (r : Option (ℕ × ℕ)) (i : Item) → 0 < length bytes → pairs.is_lead (get_or bytes 0 0) ≡ false → i ≡ pairs.alone (get_or bytes 0 0)
+    → IfSome r (λ found. IsScalarOf i 1 found) → IfSome r (λ found. BeginsWithScalar (pairs_unit pairs) bytes found.0 found.1)
+alone_scalar pairs bytes None i h lead e told = told
+alone_scalar pairs bytes (Some found) i h lead e told = λ mode more are.
+    alone_front pairs mode bytes more h lead ∙ (ap (λ (j : Item). record { item = j; len = 1; next = mode }) (sym e ∙ told.0) ∙ ap (λ n. scalar_at mode found.0 n) (sym told.1))
+
+pub both_scalar : (pairs : Pairs) (bytes : List ℕ) (r : Option (ℕ × ℕ)) (i : Item) → 2 ≤ length bytes → pairs.is_lead (get_or bytes 0 0) ≡ true → i ≡ pairs.both (get_or bytes 0 0) (get_or bytes 1 0)
+    → IfSome r (λ found. IsScalarOf i 2 found) → IfSome r (λ found. BeginsWithScalar (pairs_unit pairs) bytes found.0 found.1)
+both_scalar pairs bytes None i h lead e told = told
+both_scalar pairs bytes (Some found) i h lead e told = λ mode more are.
+    both_front pairs mode bytes more h lead
+    ∙ (ap (λ (j : Item). record { item = j; len = both_len j (get_or bytes 1 0); next = mode }) (sym e ∙ told.0) ∙ ap (λ n. scalar_at mode found.0 n) (sym told.1))
+
+pub pair_reads : (pairs : Pairs) (a b code : ℕ) → pairs.is_lead a ≡ true → pairs.both a b ≡ One code → (mode : Mode) (rest : List ℕ) → pairs_unit pairs mode (a ∷ b ∷ rest) ≡ scalar_at mode code 2
+unfolding pairs_unit
+pair_reads pairs a b code lead e mode rest = rw (lead, e) refl

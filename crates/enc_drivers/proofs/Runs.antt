@@ -1,5 +1,5 @@
 -- Decoding where nothing is held: a copy of ASCII, and the unit at the front of what is left.
-use Rattle.std.proofs.Common.{◌≡◌, ℕ, zero, suc, ◌+◌, ◌-◌, ◌<◌, ◌≤◌, Bool, true, false, ltb, cond, List, [], ◌∷◌, ◌++◌, All, length, take, drop, map, refl, ap, sym, subst, ◌∙◌, inr, arith, length-append, length-drop, length-take}
+use Rattle.std.proofs.Common.{◌≡◌, ℕ, zero, suc, ◌+◌, ◌-◌, ◌<◌, ◌≤◌, Bool, true, false, ltb, cond, List, [], ◌∷◌, ◌++◌, All, length, take, drop, map, refl, ap, sym, subst, ◌∙◌, inr, arith, append_assoc, length-append, length-drop, length-take}
 use Rattle.std.proofs.Math.Dec.{leb}
 use Rattle.std.proofs.lemmas.Bool.{leb-false, leb-true, ltb-true}
 use Rattle.std.proofs.lemmas.List.{append-nil, drop-append-le, take-append-drop, take-append-le, take-take, take_all, drop_all}
@@ -12,11 +12,11 @@ use Rattle.enc_handles.proofs.AsciiLemmas.{moved_text-ascii, length-take-moved_l
 use Rattle.enc_drivers.specs.declared.unit.Item.{Item}
 use Rattle.enc_drivers.specs.declared.unit.Item.TheVariants as item
 use Rattle.enc_drivers.specs.declared.unit.Mode.{Mode}
-use Rattle.enc_drivers.specs.Bulk.{KeepsAscii}
+use Rattle.enc_drivers.specs.Bulk.{KeepsAscii, BeginsWithScalar, ReadsBytes}
 use Rattle.enc_drivers.specs.Turn.{Goes, ReadsOnto}
 use Rattle.enc_drivers.specs.Resume.{MayHold, item_in, text_in, unit_bytes}
 use Rattle.enc_drivers.specs.Steps.{MayFollow, IsDecided, IsUndecided}
-use Rattle.enc_drivers.specs.Units.{Code, IsCode, IsUnitOf, AreBytes, UnitAt, units}
+use Rattle.enc_drivers.specs.Units.{Code, IsCode, IsUnitOf, AreBytes, UnitAt, scalar_at, units}
 use Rattle.enc_drivers.proofs.FrontSteps.{undecided_few, open_front}
 use Rattle.enc_drivers.proofs.Turns.{writing_none}
 use Rattle.enc_drivers.proofs.UnitLemmas.{units_some}
@@ -190,6 +190,72 @@ copied_ascii unit form last mode xs n w w' laws ascii one are count written =
       };
       text = written ∙ ap (after_writing w) (sym moved);
       fits = omega (arith, ap length moved, len);
+      fewer = omega arith;
+      ahead = λ some held. absurd (omega arith);
+    }
+
+-- a scalar at the front
+module _ (unit : Code) (laws : IsCode unit) (xs : List ℕ) (c n : ℕ) (are : AreBytes xs) (some : 0 < length xs) (begins : BeginsWithScalar unit xs c n) where
+  pub scalar_found : (mode : Mode) → IsUnitOf xs (scalar_at mode c n)
+  scalar_found mode =
+      let front : unit mode xs ≡ scalar_at mode c n = ap (unit mode) (sym (append-nil xs)) ∙ begins mode [] (All-nil (λ b. b < 256)) in
+      rw front at (laws.each mode xs are some)
+
+  pub scalar_moved : (form : ℕ → List ℕ) (last : Bool) (mode : Mode) (w w' : Writing) → w' ≡ after_writing w (form c) → length (form c) ≤ w.free
+      → Goes unit form last (record { held = []; mode = mode }) (record { held = []; mode = mode }) xs n w w' []
+  scalar_moved form last mode w w' written fits =
+      let within = (scalar_found mode).within in
+      record {
+        decoded = (item.One c, n) ∷ [];
+        within = within;
+        resumes = record {
+          well_formed = All-cons well (item.One c, n) [] (λ e. cc) (All-nil well);
+          equation = λ more follows.
+              let long : 0 < length (xs ++ more) = rw (length-append xs more) (omega arith) in
+              units_some unit laws mode (xs ++ more) (All-append (λ b. b < 256) xs more are follows.bytes) long
+              ∙ (ap (λ (v : UnitAt). (v.item, v.len) ∷ units unit v.next (drop v.len (xs ++ more))) (begins mode more follows.bytes)
+              ∙ ap (λ (l : List ℕ). (item.One c, n) ∷ units unit mode l) (drop-append-le n xs more within));
+          gone = take n xs;
+          held = sym (append-nil (take n xs));
+        };
+        text = written ∙ ap (after_writing w) (sym (append-nil (form c)));
+        fits = rw (append-nil (form c)) fits;
+        fewer = omega arith;
+        ahead = λ some held. absurd (omega arith);
+      }
+
+-- bytes that are units of one byte
+bytes_units : (unit : Code) → IsCode unit → (mode : Mode) (bs cs rest : List ℕ) → AreBytes (bs ++ rest) → ReadsBytes unit bs cs
+    → units unit mode (bs ++ rest) ≡ ascii_items cs ++ units unit mode rest
+bytes_units unit laws mode [] [] rest are reads = refl
+bytes_units unit laws mode [] (c ∷ cs) rest are reads = absurd reads
+bytes_units unit laws mode (b ∷ bs) [] rest are reads = absurd reads
+bytes_units unit laws mode (b ∷ bs) (c ∷ cs) rest are reads =
+    units_some unit laws mode (b ∷ (bs ++ rest)) are (omega arith)
+    ∙ (ap (λ (v : UnitAt). (v.item, v.len) ∷ units unit v.next (drop v.len (b ∷ (bs ++ rest)))) (reads.0 mode (bs ++ rest))
+    ∙ ap (λ (l : List (Item × ℕ)). (item.One c, 1) ∷ l) (bytes_units unit laws mode bs cs rest (All-tail (λ x. x < 256) b (bs ++ rest) are) reads.1))
+
+-- eight of them
+pub block_moved : (unit : Code) (form : ℕ → List ℕ) (last : Bool) (mode : Mode) (xs block : List ℕ) (w w' : Writing) → IsCode unit → AreBytes xs → 8 ≤ length xs
+    → ReadsBytes unit (take 8 xs) block → w' ≡ after_writing w (text_of form block) → length (text_of form block) ≤ w.free
+    → Goes unit form last (record { held = []; mode = mode }) (record { held = []; mode = mode }) xs 8 w w' []
+block_moved unit form last mode xs block w w' laws are long reads written fits =
+    let whole : (more : List ℕ) → xs ++ more ≡ take 8 xs ++ (drop 8 xs ++ more) = λ more.
+    ap (λ (l : List ℕ). l ++ more) (sym (take-append-drop 8 xs)) ∙ append_assoc (take 8 xs) (drop 8 xs) more in
+    record {
+      decoded = ascii_items block;
+      within = long;
+      resumes = record {
+        well_formed = ascii_well block;
+        equation = λ more follows.
+            let all = All-append (λ b. b < 256) xs more are follows.bytes in
+            ap (units unit mode) (whole more)
+            ∙ bytes_units unit laws mode (take 8 xs) block (drop 8 xs ++ more) (subst (λ (l : List ℕ). AreBytes l) (whole more) all) reads;
+        gone = take 8 xs;
+        held = sym (append-nil (take 8 xs));
+      };
+      text = written ∙ ap (after_writing w) (sym (ascii_text form block));
+      fits = omega (arith, ap length (ascii_text form block), fits);
       fewer = omega arith;
       ahead = λ some held. absurd (omega arith);
     }

@@ -1,10 +1,12 @@
 -- Proofs of the laws of the codes. They stand here since an impl's law has to be a term over specs/.
 pub mod Big5Law
+pub mod EncoderLaws
 pub mod EucJpLaw
 pub mod EucKrLaw
 pub mod Gb18030Law
 pub mod Iso2022JpLaw
 pub mod LeastPlace
+pub mod PaddedLaw
 pub mod PairsLaw
 pub mod Scalars
 pub mod SequenceLaw

@@ -2,6 +2,10 @@ pub mod Bulk
 pub mod Codes
 pub mod Decodes
 pub mod Driver
+pub mod Encode
+pub mod Encoded
+pub mod Encodes
+pub mod Encoding
 pub mod Front
 pub mod Lemmas
 pub mod Lookup

@@ -1,8 +1,9 @@
 -- Indexes of scalars by place (Encoding Standard, section 5).
-use Rattle.std.specs.Prelude.{ℕ, ◌<◌, ◌==◌, Bool, false, find, Option}
+use Rattle.std.specs.Prelude.{◌≡◌, ℕ, ◌-◌, ◌<◌, ◌≤◌, ◌==◌, Bool, false, find, List, Option, Some, slice_index}
 use Rattle.std.specs.List.{range_with_len}
 use Rattle.std.specs.Option.{ForSome, option_map_or}
 use Rattle.std.specs.Char.{IsScalar}
+use Rattle.enc_handles.specs.Entries.{entry_of}
 
 -- the scalars of an index by place, none where the index has no such place
 abbrev pub Places : Type 0
@@ -23,3 +24,19 @@ holds places scalar place = option_map_or (λ c. c == scalar) (places place) fal
 -- the least place under `below` that holds the scalar ("index pointer", section 5, of the places that an encoder looks at)
 unfoldable pub least_place : Places → ℕ → ℕ → Option ℕ
 least_place places scalar below = find (holds places scalar) (range_with_len 0 below)
+
+-- there is a scalar up to U+FFFF, and the number is its entry
+pub record IsEntryOf (scalar : Option ℕ) (number : ℕ) : Type 0 where
+  pub code : ℕ
+  pub is : scalar ≡ Some code
+  pub small : code < 0x1_0000
+  pub entry : number ≡ entry_of code
+
+-- the number is the entry of a byte's scalar: ASCII itself, and the others by their places
+pub record IsByteEntry (places : Places) (byte number : ℕ) : Type 0 where
+  pub ascii : byte < 0x80 → number ≡ entry_of byte
+  pub other : 0x80 ≤ byte → IsEntryOf (places (byte - 0x80)) number
+
+-- of each byte the entry of its scalar, or 0
+abbrev pub AreByteEntries : Places → List ℕ → Type 0
+AreByteEntries places numbers = (byte : ℕ) → byte < 0x100 → 0 < slice_index numbers byte → IsByteEntry places byte (slice_index numbers byte)

@@ -45,7 +45,8 @@ impl Front {
     // Takes the last byte off.
     pub(crate) fn pop(&mut self)
         requires { 0 < length (front_bytes self.old) }
-        ensures { (length (front_bytes self.new) + 1 ≡ length (front_bytes self.old)) × (front_bytes self.new ≡ take (length (front_bytes self.new)) (front_bytes self.old)) }
+        ensures { (length (front_bytes self.new) + 1 ≡ length (front_bytes self.old))
+            × (front_bytes self.new ≡ take (length (front_bytes self.new)) (front_bytes self.old)) }
     {
         self.len -= 1;
     }

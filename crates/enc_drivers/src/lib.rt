@@ -1,10 +1,13 @@
-//! Codes of the Encoding Standard's decoders: the units that they read, and drivers that decode a stream in pieces.
-//! The definitions are in `specs/`: `units` of a code, their `text`, and the resume equation.
+//! Codes of the Encoding Standard's decoders: the units that they read, and drivers that decode a
+//! stream in pieces. The definitions are in `specs/`: `units` of a code, their `text`, and the
+//! resume equation.
 #![tactic(auto)]
 
 pub mod code;
 pub mod codes;
 pub mod drivers;
+pub mod encode;
+pub mod encoders;
 mod front;
 pub mod laws;
 pub mod lookup;

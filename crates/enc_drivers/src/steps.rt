@@ -1,11 +1,23 @@
 //! Answers of `step` that several codes give.
 
-ghost use Rattle.std.specs.Prelude.{◌≡◌, if◌then◌else◌};
+ghost use Rattle.std.specs.Prelude.{◌≡◌, if◌then◌else◌, IfSome};
+ghost use Rattle.enc_drivers.specs.Bulk.{IsScalarOf};
 ghost use Rattle.enc_drivers.specs.declared.unit.Item.TheVariants.{Malformed};
 ghost use Rattle.enc_drivers.specs.declared.code.Step.TheVariants as step;
 
 use crate::code::Step;
 use crate::{Item, Mode};
+
+// The scalar of an item, with so many bytes.
+#[inline(always)]
+pub(crate) fn scalar_of(item: Item, length: usize) -> Option<(char, usize)>
+    ensures { IfSome result (λ found. IsScalarOf item length found) }
+{
+    match item {
+        Item::One(scalar) => Some((scalar, length)),
+        _ => None,
+    }
+}
 
 // So many malformed bytes.
 pub(crate) fn malformed(mode: Mode, length: u8) -> Step

@@ -96,7 +96,8 @@ impl Lookup for OneRow {
     }
 }
 
-// Decodes a piece into so much room a call, and appends its text, with U+FFFD for malformed units, and the lengths of these.
+// Decodes a piece into so much room a call, and appends its text, with U+FFFD for malformed units,
+// and the lengths of these.
 fn decode_piece<C: Code>(
     driver: &mut GeneralDriver<C>,
     piece: &[u8],
@@ -156,7 +157,8 @@ pub(crate) fn check_cut<C: Code + Drop>(
     Ok(())
 }
 
-// The text of bytes one unit at a time, by steps alone, with U+FFFD for malformed units; `mode` goes on behind them.
+// The text of bytes one unit at a time, by steps alone, with U+FFFD for malformed units; `mode`
+// goes on behind them.
 fn unit_by_unit<C: Code>(
     alloc: Global,
     code: &C,
@@ -188,7 +190,8 @@ fn unit_by_unit<C: Code>(
     Ok(text)
 }
 
-// Compares a driver with the steps of its code: a text in two pieces, at every cut and in several rooms.
+// Compares a driver with the steps of its code: a text in two pieces, at every cut and in several
+// rooms.
 pub(crate) fn check_by_units<C: Code + Drop>(
     rt: &impl Abort,
     alloc: Global,

@@ -13,7 +13,8 @@ pub enum JisSet {
     Jis0208,
 }
 
-/// What a decoder of a stateful encoding is in. Every other encoding reads each mode as `Plain`, and keeps it.
+/// What a decoder of a stateful encoding is in. Every other encoding reads each mode as `Plain`,
+/// and keeps it.
 #[derive(Clone, Copy, Debug, PartialEq, Eq)]
 pub enum Mode {
     /// The start of a stream. ISO-2022-JP reads it as `Within(JisSet::Ascii)`.

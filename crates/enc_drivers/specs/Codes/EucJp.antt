@@ -1,9 +1,10 @@
 -- The units of EUC-JP (Encoding Standard, section 12.1.1, EUC-JP decoder).
-use Rattle.std.specs.Prelude.{ℕ, ◌+◌, ◌-◌, ◌*◌, ◌/◌, ◌%◌, Bool, ◌==◌, ◌&&◌, ◌||◌, nat_le, nat_lt, if◌then◌else◌, List, [], ◌∷◌, Option, Some, None}
+use Rattle.std.specs.Prelude.{ℕ, ◌+◌, ◌-◌, ◌*◌, ◌/◌, ◌%◌, Bool, ◌==◌, ◌&&◌, ◌||◌, nat_le, nat_lt, if◌then◌else◌, List, [], ◌∷◌, Option, Some, None, option_map}
 use Rattle.enc_drivers.specs.declared.unit.Mode.{Mode}
 use Rattle.enc_drivers.specs.Units.{UnitAt, scalar_at, malformed_at}
-use Rattle.enc_drivers.specs.Lookup.{Places}
+use Rattle.enc_drivers.specs.Lookup.{Places, least_place}
 use Rattle.enc_drivers.specs.Codes.Sequence.{sequence_unit}
+use Rattle.enc_drivers.specs.Encode.{BytesOf}
 
 -- a byte of a scalar of an index of 94 rows
 abbrev pub in_row : ℕ → Bool
@@ -46,3 +47,17 @@ euc_jp_unit jis0208 jis0212 mode (a ∷ rest) =
 -- the last two bytes of a place of either index (Encoding Standard, section 12.1.2, EUC-JP encoder)
 abbrev pub euc_jp_bytes : ℕ → List ℕ
 euc_jp_bytes place = (place / 94 + 0xA1) ∷ (place % 94 + 0xA1) ∷ []
+
+-- the minus sign is written as the full-width hyphen-minus
+abbrev pub minus_as_hyphen : ℕ → ℕ
+minus_as_hyphen scalar = if scalar == 0x2212 then 0xFF0D else scalar
+
+-- the bytes of a scalar: ASCII, the yen sign, the overline and half-width katakana by number, and else those of the least place of
+-- jis0208 (Encoding Standard, section 12.1.2, EUC-JP encoder)
+unfoldable pub euc_jp_bytes_of : Places → BytesOf
+euc_jp_bytes_of jis0208 scalar =
+    if nat_lt scalar 0x80 then Some (scalar ∷ [])
+    else (if scalar == 0xA5 then Some (0x5C ∷ [])
+    else (if scalar == 0x203E then Some (0x7E ∷ [])
+    else (if nat_le 0xFF61 scalar && nat_le scalar 0xFF9F then Some (0x8E ∷ (scalar - 0xFF61 + 0xA1) ∷ [])
+    else option_map euc_jp_bytes (least_place jis0208 (minus_as_hyphen scalar) 8836))))

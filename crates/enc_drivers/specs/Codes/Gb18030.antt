@@ -1,9 +1,10 @@
 -- The units of gb18030, whose decoder is GBK's too (Encoding Standard, section 10.2.1, gb18030 decoder; section 10.1.1).
-use Rattle.std.specs.Prelude.{ℕ, ◌+◌, ◌-◌, ◌*◌, ◌/◌, ◌%◌, Bool, ◌==◌, ◌&&◌, ◌||◌, nat_le, nat_lt, if◌then◌else◌, List, [], ◌∷◌, Option, None}
+use Rattle.std.specs.Prelude.{ℕ, ◌+◌, ◌-◌, ◌*◌, ◌/◌, ◌%◌, Bool, ◌==◌, ◌&&◌, ◌||◌, nat_le, nat_lt, if◌then◌else◌, List, [], ◌∷◌, Option, None, Some, option_map}
 use Rattle.enc_drivers.specs.declared.unit.Mode.{Mode}
 use Rattle.enc_drivers.specs.Units.{UnitAt, scalar_at, malformed_at}
-use Rattle.enc_drivers.specs.Lookup.{Places}
+use Rattle.enc_drivers.specs.Lookup.{Places, least_place}
 use Rattle.enc_drivers.specs.Codes.Sequence.{whole_unit, sequence_unit}
+use Rattle.enc_drivers.specs.Encode.{BytesOf}
 
 -- a byte that stands first of two or four, or third of four
 abbrev pub is_gb18030_lead : ℕ → Bool
@@ -63,3 +64,17 @@ gb18030_bytes place = (place / 190 + 0x81) ∷ (place % 190 + (if nat_lt (place 
 
 abbrev pub ranges_bytes : ℕ → List ℕ
 ranges_bytes place = (place / 12600 + 0x81) ∷ (place % 12600 / 1260 + 0x30) ∷ (place % 1260 / 10 + 0x81) ∷ (place % 10 + 0x30) ∷ []
+
+-- the bytes of a scalar by its place in the index; without one gb18030 has the bytes of the least place of the ranges, and GBK none
+abbrev pub gb18030_place_bytes : Bool → Places → ℕ → Option ℕ → Option (List ℕ)
+gb18030_place_bytes gbk ranges scalar (Some place) = Some (gb18030_bytes place)
+gb18030_place_bytes gbk ranges scalar None = if gbk then None else option_map ranges_bytes (least_place ranges scalar 1237576)
+
+-- the bytes of a scalar, in GBK where `gbk` is true: ASCII as it is, none of U+E5E5, in GBK 80 of the euro sign, and else by the
+-- index and the ranges (Encoding Standard, section 10.2.2, gb18030 encoder)
+unfoldable pub gb18030_bytes_of : Bool → Places → Places → BytesOf
+gb18030_bytes_of gbk index ranges scalar =
+    if nat_lt scalar 0x80 then Some (scalar ∷ [])
+    else (if scalar == 0xE5E5 then None
+    else (if gbk && scalar == 0x20AC then Some (0x80 ∷ [])
+    else gb18030_place_bytes gbk ranges scalar (least_place index scalar 23940)))

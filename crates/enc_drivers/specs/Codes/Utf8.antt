@@ -1,8 +1,9 @@
 -- The units of UTF-8 (Encoding Standard, section 8.1.1, UTF-8 decoder; the Unicode Standard, table 3-7).
-use Rattle.std.specs.Prelude.{ℕ, ◌<◌, ◌≤◌, Bool, ◌==◌, ◌&&◌, ◌||◌, if◌then◌else◌, List, ◌++◌, length, take}
+use Rattle.std.specs.Prelude.{ℕ, ◌<◌, ◌≤◌, Bool, ◌==◌, ◌&&◌, ◌||◌, if◌then◌else◌, List, ◌++◌, length, take, Some, encode_utf8}
 use Rattle.enc_handles.specs.Utf8.{byte_in, is_tail_at, sequence_len, sequence_scalar}
 use Rattle.enc_drivers.specs.declared.unit.Mode.{Mode}
 use Rattle.enc_drivers.specs.Units.{UnitAt, AreBytes, scalar_at, malformed_at}
+use Rattle.enc_drivers.specs.Encode.{BytesOf}
 
 -- the first two bytes of a row of the table
 abbrev pub begins_pair : List ℕ → ℕ → ℕ → ℕ → ℕ → Bool
@@ -46,3 +47,7 @@ pub record IsLongestBegun (bytes : List ℕ) (n : ℕ) : Type 0 where
   pub some : 1 ≤ n
   pub begun : 1 < n → BeginsSequence bytes n
   pub longest : (k : ℕ) → n < k → ¬ BeginsSequence bytes k
+
+-- the bytes of a scalar: its UTF-8 (Encoding Standard, section 8.1.2, UTF-8 encoder, which UTF-16 has too)
+unfoldable pub utf8_bytes_of : BytesOf
+utf8_bytes_of scalar = Some (encode_utf8 scalar)

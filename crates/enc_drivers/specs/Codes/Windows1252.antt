@@ -1,7 +1,10 @@
 -- The units of windows-1252 (Encoding Standard, section 9.1, single-byte decoder, and index windows-1252).
-use Rattle.std.specs.Prelude.{ℕ, ◌-◌, ◌&&◌, nat_le, if◌then◌else◌, List, [], ◌∷◌, slice_index}
+use Rattle.std.specs.Prelude.{ℕ, ◌-◌, ◌&&◌, nat_le, if◌then◌else◌, List, [], ◌∷◌, slice_index, ◌+◌, Some}
 use Rattle.enc_drivers.specs.declared.unit.Mode.{Mode}
 use Rattle.enc_drivers.specs.Units.{UnitAt, scalar_at, malformed_at}
+use Rattle.enc_drivers.specs.Lookup.{Places}
+use Rattle.enc_drivers.specs.Encode.{BytesOf}
+use Rattle.enc_drivers.specs.Codes.SingleByte.{single_byte_bytes_of}
 
 -- windows-1252 at 80 to 9F, in order (Encoding Standard, index windows-1252)
 abbrev pub windows_1252_table : List ℕ
@@ -19,3 +22,11 @@ windows_1252_scalar b = if nat_le 0x80 b && nat_le b 0x9F then slice_index windo
 unfoldable pub windows_1252_unit : Mode → List ℕ → UnitAt
 windows_1252_unit mode [] = malformed_at mode 0
 windows_1252_unit mode (b ∷ rest) = scalar_at mode (windows_1252_scalar b) 1
+
+-- the scalars of 80 to FF by place, as an index has them
+abbrev pub windows_1252_places : Places
+windows_1252_places place = Some (windows_1252_scalar (place + 0x80))
+
+-- the byte of a scalar (Encoding Standard, section 9.2, single-byte encoder)
+abbrev pub windows_1252_bytes_of : BytesOf
+windows_1252_bytes_of = single_byte_bytes_of windows_1252_places

@@ -1,6 +1,7 @@
 //! Big5 (Encoding Standard, section 11.1.1, Big5 decoder).
 
 ghost use Rattle.std.specs.Prelude.{◌≡◌, ◌<◌, ◌≤◌, ◌||◌, true};
+ghost use Rattle.enc_drivers.specs.Bulk.{IsItemEntry};
 ghost use Rattle.enc_drivers.specs.Codes.Big5.{is_big5_lead, is_big5_trail, big5_place, big5_at, big5_pairs, big5_unit};
 
 use crate::code::{Bulk, Code, Step};
@@ -18,7 +19,8 @@ pub struct Big5<'t, L: Lookup> {
 }
 
 impl<'t, L: Lookup> Big5<'t, L> {
-    /// The code. The four places that stand for two scalars (1133, 1135, 1164 and 1166) are never looked up.
+    /// The code. The four places that stand for two scalars (1133, 1135, 1164 and 1166) are never
+    /// looked up.
     pub fn new(index: &'t L) -> Big5<'t, L>
         ensures { ⟦<Big5<'t, L> as Code>⟧.unit result ≡ big5_unit (L.places index.now) }
     {
@@ -38,6 +40,16 @@ impl<'t, L: Lookup> Code for Big5<'t, L> {
 
     fn bulk(&self) -> Bulk {
         Bulk::Ascii
+    }
+
+    #[inline(always)]
+    fn scalar(&self, bytes: &[u8]) -> Option<(char, usize)> {
+        pairs::scalar(self, bytes)
+    }
+
+    #[inline(always)]
+    fn entry(&self, first: u8, second: u8) -> u32 {
+        pairs::entry(self, first, second)
     }
 
     ghost laws = { λ code. big5_law (L.places code.index.now) (L.scalars code.index.now) };
@@ -61,6 +73,14 @@ impl<'t, L: Lookup> PairCode for Big5<'t, L> {
         }
         at(self.index, place(lead, second))
     }
+
+    #[inline(always)]
+    fn pair_entry(&self, lead: u8, second: u8) -> u32 {
+        if !is_trail(second) {
+            return 0;
+        }
+        entry_at(self.index, place(lead, second))
+    }
 }
 
 fn is_trail(byte: u8) -> bool
@@ -77,6 +97,18 @@ fn place(lead: u8, trail: u8) -> u32
 {
     let offset = if trail < 0x7F { 0x40 } else { 0x62 };
     u32::from(lead - 0x81) * 157 + u32::from(trail - offset)
+}
+
+// The entry of what the index has at a place, or 0.
+#[inline(always)]
+#[tactic(auto, unfolding(crate::specs::Codes::Big5::big5_at))]
+fn entry_at<L: Lookup>(index: &L, place: u32) -> u32
+    ensures { 0 < result → IsItemEntry (big5_at (L.places index.now) place) result }
+{
+    if 1133 <= place && place <= 1166 {
+        return 0;
+    }
+    index.entry(place)
 }
 
 // What stands at a place.

@@ -1,14 +1,17 @@
 //! EUC-JP (Encoding Standard, section 12.1.1, EUC-JP decoder).
 
-ghost use Rattle.std.specs.Prelude.{◌≡◌, ◌<◌, ◌≤◌, ◌&&◌, ◌==◌};
-ghost use Rattle.enc_drivers.specs.Codes.EucJp.{in_row, is_euc_jp_lead, row_scalar, euc_jp_scalar, euc_jp_unit};
+ghost use Rattle.std.specs.Prelude.{◌≡◌, ◌<◌, ◌≤◌, ◌&&◌, ◌==◌, true};
+ghost use Rattle.enc_drivers.specs.Lookup.{IsEntryOf};
+ghost use Rattle.enc_drivers.specs.Codes.EucJp.{in_row, is_euc_jp_lead, row_scalar, euc_jp_scalar, euc_jp_unit, euc_jp_bytes_of};
 
 use crate::Mode;
 use crate::code::{Bulk, Code, Step};
 use crate::codes::sequence::{one, sequence};
+use crate::encode::EncodeCode;
 use crate::lookup::Lookup;
 use crate::steps::{cut, malformed};
 
+mod encode;
 #[cfg(test)]
 mod tests;
 
@@ -22,8 +25,10 @@ pub struct EucJp<'t, L: Lookup> {
 impl<'t, L: Lookup> EucJp<'t, L> {
     /// The code over two indexes.
     pub fn new(jis0208: &'t L, jis0212: &'t L) -> EucJp<'t, L>
-        ensures { ⟦<EucJp<'t, L> as Code>⟧.unit result
+        ensures units { ⟦<EucJp<'t, L> as Code>⟧.unit result
             ≡ euc_jp_unit (L.places jis0208.now) (L.places jis0212.now) }
+        ensures bytes { ⟦<EucJp<'t, L> as EncodeCode>⟧.bytes result
+            ≡ euc_jp_bytes_of (L.places jis0208.now) }
     {
         EucJp { jis0208, jis0212 }
     }
@@ -61,6 +66,41 @@ impl<'t, L: Lookup> Code for EucJp<'t, L> {
         Bulk::Ascii
     }
 
+    // Of the scalars in jis0208.
+    #[inline(always)]
+    fn entry(&self, first: u8, second: u8) -> u32 {
+        if !is_in_row(first) {
+            return 0;
+        }
+        if !is_in_row(second) {
+            return 0;
+        }
+        row_entry(self.jis0208, first, second)
+    }
+
+    // Of one and two bytes.
+    #[inline(always)]
+    fn scalar(&self, bytes: &[u8]) -> Option<(char, usize)> {
+        let lead = bytes[0];
+        if lead < 0x80 {
+            return Some((char::from(lead), 1));
+        }
+        if !is_lead(lead) {
+            return None;
+        }
+        if bytes.len() < 2 {
+            return None;
+        }
+        let second = bytes[1];
+        if names_jis0212(lead, second) {
+            return None;
+        }
+        match two_byte_scalar(self.jis0208, lead, second) {
+            Some(scalar) => Some((scalar, 2)),
+            None => None,
+        }
+    }
+
     ghost laws = { λ code. euc_jp_law (L.places code.jis0208.now) (L.places code.jis0212.now)
         (L.scalars code.jis0208.now) (L.scalars code.jis0212.now) };
 }
@@ -96,6 +136,17 @@ fn two_byte_scalar<L: Lookup>(jis0208: &L, lead: u8, second: u8) -> Option<char>
         return Some(char::from_u32(0xFF61 + u32::from(second - 0xA1)).unwrap());
     }
     row_scalar(jis0208, lead, second)
+}
+
+// The entry of the scalar of two bytes of a row in an index, or 0.
+#[inline(always)]
+#[tactic(auto, unfolding(crate::specs::Codes::EucJp::row_scalar))]
+fn row_entry<L: Lookup>(index: &L, first: u8, second: u8) -> u32
+    requires first { in_row first ≡ true }
+    requires second { in_row second ≡ true }
+    ensures { 0 < result → IsEntryOf (row_scalar (L.places index.now) first second) result }
+{
+    index.entry(u32::from(first - 0xA1) * 94 + u32::from(second - 0xA1))
 }
 
 // The scalar of two bytes of a row in an index.

@@ -1,13 +1,15 @@
 //! EUC-KR (Encoding Standard, section 13.1.1, EUC-KR decoder).
 
 ghost use Rattle.std.specs.Prelude.{◌≡◌, ◌<◌, ◌≤◌, true};
-ghost use Rattle.enc_drivers.specs.Codes.EucKr.{is_euc_kr_lead, is_euc_kr_trail, euc_kr_place, euc_kr_pairs, euc_kr_unit};
+ghost use Rattle.enc_drivers.specs.Codes.EucKr.{is_euc_kr_lead, is_euc_kr_trail, euc_kr_place, euc_kr_pairs, euc_kr_unit, euc_kr_bytes_of};
 
 use crate::code::{Bulk, Code, Step};
 use crate::codes::pairs::{self, PairCode};
+use crate::encode::EncodeCode;
 use crate::lookup::Lookup;
 use crate::{Item, Mode};
 
+mod encode;
 #[cfg(test)]
 mod tests;
 
@@ -20,7 +22,9 @@ pub struct EucKr<'t, L: Lookup> {
 impl<'t, L: Lookup> EucKr<'t, L> {
     /// The code.
     pub fn new(index: &'t L) -> EucKr<'t, L>
-        ensures { ⟦<EucKr<'t, L> as Code>⟧.unit result ≡ euc_kr_unit (L.places index.now) }
+        ensures units { ⟦<EucKr<'t, L> as Code>⟧.unit result ≡ euc_kr_unit (L.places index.now) }
+        ensures bytes { ⟦<EucKr<'t, L> as EncodeCode>⟧.bytes result
+            ≡ euc_kr_bytes_of (L.places index.now) }
     {
         EucKr { index }
     }
@@ -38,6 +42,16 @@ impl<'t, L: Lookup> Code for EucKr<'t, L> {
 
     fn bulk(&self) -> Bulk {
         Bulk::Ascii
+    }
+
+    #[inline(always)]
+    fn scalar(&self, bytes: &[u8]) -> Option<(char, usize)> {
+        pairs::scalar(self, bytes)
+    }
+
+    #[inline(always)]
+    fn entry(&self, first: u8, second: u8) -> u32 {
+        pairs::entry(self, first, second)
     }
 
     ghost laws = { λ code. euc_kr_law (L.places code.index.now) (L.scalars code.index.now) };
@@ -60,6 +74,14 @@ impl<'t, L: Lookup> PairCode for EucKr<'t, L> {
             return Item::Malformed;
         }
         pairs::item_found(self.index.at(place(lead, second)))
+    }
+
+    #[inline(always)]
+    fn pair_entry(&self, lead: u8, second: u8) -> u32 {
+        if !is_trail(second) {
+            return 0;
+        }
+        self.index.entry(place(lead, second))
     }
 }
 

@@ -1,15 +1,18 @@
 //! gb18030, and GBK, which decodes alike (Encoding Standard, section 10.2.1, gb18030 decoder).
 
 ghost use Rattle.std.specs.Prelude.{◌≡◌, ◌<◌, ◌≤◌, true, length, slice_index};
+ghost use Rattle.enc_drivers.specs.Lookup.{IsEntryOf};
 ghost use Rattle.enc_drivers.specs.Steps.{Steps};
-ghost use Rattle.enc_drivers.specs.Codes.Gb18030.{is_gb18030_lead, is_gb18030_digit, is_gb18030_trail, gb18030_scalar, ranges_place, gb18030_unit};
+ghost use Rattle.enc_drivers.specs.Codes.Gb18030.{is_gb18030_lead, is_gb18030_digit, is_gb18030_trail, gb18030_scalar, ranges_place, gb18030_unit, gb18030_bytes_of};
 
 use crate::Mode;
 use crate::code::{Bulk, Code, Step};
 use crate::codes::sequence::{one, sequence, whole};
+use crate::encode::EncodeCode;
 use crate::lookup::Lookup;
 use crate::steps::{cut, malformed};
 
+mod encode;
 #[cfg(test)]
 mod tests;
 
@@ -22,11 +25,13 @@ pub struct Gb18030<'t, L: Lookup, R: Lookup> {
 }
 
 impl<'t, L: Lookup, R: Lookup> Gb18030<'t, L, R> {
-    /// The code over an index for sequences of two bytes and the range lookup for sequences of four, whose places are
-    /// 0 to 1587599. With `gbk` it encodes as GBK; both decode alike.
+    /// The code over an index for sequences of two bytes and the range lookup for sequences of
+    /// four, whose places are 0 to 1587599. With `gbk` it encodes as GBK; both decode alike.
     pub fn new(index: &'t L, ranges: &'t R, gbk: bool) -> Gb18030<'t, L, R>
-        ensures { ⟦<Gb18030<'t, L, R> as Code>⟧.unit result
+        ensures units { ⟦<Gb18030<'t, L, R> as Code>⟧.unit result
             ≡ gb18030_unit (L.places index.now) (R.places ranges.now) }
+        ensures bytes { ⟦<Gb18030<'t, L, R> as EncodeCode>⟧.bytes result
+            ≡ gb18030_bytes_of gbk (L.places index.now) (R.places ranges.now) }
     {
         Gb18030 { index, ranges, gbk }
     }
@@ -36,7 +41,8 @@ impl<'t, L: Lookup, R: Lookup> Gb18030<'t, L, R> {
         requires two { 2 ≤ length front.now }
         requires lead { is_gb18030_lead (slice_index front.now 0) ≡ true }
         requires digit { is_gb18030_digit (slice_index front.now 1) ≡ true }
-        ensures { Steps (gb18030_unit (L.places self.now.index.now) (R.places self.now.ranges.now)) mode front.now last result }
+        ensures { Steps (gb18030_unit (L.places self.now.index.now) (R.places self.now.ranges.now))
+            mode front.now last result }
     {
         if front.len() < 3 {
             return cut(mode, 2, last);
@@ -86,6 +92,40 @@ impl<'t, L: Lookup, R: Lookup> Code for Gb18030<'t, L, R> {
         Bulk::Ascii
     }
 
+    #[inline(always)]
+    fn entry(&self, first: u8, second: u8) -> u32 {
+        if !is_lead(first) {
+            return 0;
+        }
+        if is_digit(second) {
+            return 0;
+        }
+        two_byte_entry(self.index, first, second)
+    }
+
+    // Of one and two bytes.
+    #[inline(always)]
+    fn scalar(&self, bytes: &[u8]) -> Option<(char, usize)> {
+        let first = bytes[0];
+        if first < 0x80 {
+            return Some((char::from(first), 1));
+        }
+        if !is_lead(first) {
+            return None;
+        }
+        if bytes.len() < 2 {
+            return None;
+        }
+        let second = bytes[1];
+        if is_digit(second) {
+            return None;
+        }
+        match two_byte_scalar(self.index, first, second) {
+            Some(scalar) => Some((scalar, 2)),
+            None => None,
+        }
+    }
+
     ghost laws = { λ code. gb18030_law (L.places code.index.now) (R.places code.ranges.now)
         (L.scalars code.index.now) (R.scalars code.ranges.now) };
 }
@@ -123,6 +163,20 @@ fn two_byte_scalar<L: Lookup>(index: &L, first: u8, second: u8) -> Option<char>
     }
     let offset = if second < 0x7F { 0x40 } else { 0x41 };
     index.at(u32::from(first - 0x81) * 190 + u32::from(second - offset))
+}
+
+// The entry of the scalar of a sequence of two bytes, or 0.
+#[inline(always)]
+#[tactic(auto, unfolding(crate::specs::Codes::Gb18030::gb18030_scalar))]
+fn two_byte_entry<L: Lookup>(index: &L, first: u8, second: u8) -> u32
+    requires { 0x81 ≤ first }
+    ensures { 0 < result → IsEntryOf (gb18030_scalar (L.places index.now) first second) result }
+{
+    if !is_trail(second) {
+        return 0;
+    }
+    let offset = if second < 0x7F { 0x40 } else { 0x41 };
+    index.entry(u32::from(first - 0x81) * 190 + u32::from(second - offset))
 }
 
 // The place of a sequence of four bytes for the range lookup.

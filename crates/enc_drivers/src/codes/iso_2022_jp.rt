@@ -23,7 +23,8 @@ pub struct Iso2022Jp<'t, L: Lookup> {
 impl<'t, L: Lookup> Iso2022Jp<'t, L> {
     /// The code over an index.
     pub fn new(jis0208: &'t L) -> Iso2022Jp<'t, L>
-        ensures { ⟦<Iso2022Jp<'t, L> as Code>⟧.unit result ≡ iso_2022_jp_unit (L.places jis0208.now) }
+        ensures { ⟦<Iso2022Jp<'t, L> as Code>⟧.unit result
+            ≡ iso_2022_jp_unit (L.places jis0208.now) }
     {
         Iso2022Jp { jis0208 }
     }
@@ -33,7 +34,8 @@ impl<'t, L: Lookup> Iso2022Jp<'t, L> {
     fn escape_step(&self, mode: Mode, front: &[u8], last: bool) -> Step
         requires some { 0 < length front.now }
         requires escape { slice_index front.now 0 ≡ 0x1B }
-        ensures { Steps (iso_2022_jp_unit (L.places self.now.jis0208.now)) mode front.now last result }
+        ensures { Steps (iso_2022_jp_unit (L.places self.now.jis0208.now)) mode front.now last
+            result }
     {
         if front.len() < 2 {
             return cut(Mode::Within(set_of(mode)), 1, last);

@@ -1,12 +1,13 @@
 //! What the codes of a lead and a byte behind it share.
 
-ghost use Rattle.std.specs.Prelude.{◌≡◌, ◌<◌, ◌≤◌, ◌&&◌, Option, length, nat_lt, if◌then◌else◌};
+ghost use Rattle.std.specs.Prelude.{◌≡◌, ◌<◌, ◌≤◌, ◌&&◌, Option, IfSome, length, nat_lt, if◌then◌else◌};
+ghost use Rattle.enc_drivers.specs.Bulk.{BeginsWithScalar, IsItemEntry, IsPairEntry};
 ghost use Rattle.enc_drivers.specs.declared.code.Step.TheVariants as step;
 ghost use Rattle.enc_drivers.specs.Codes.Pairs.{ascii_alone, is_between, item_found, both_len, pairs_unit};
 ghost use Rattle.enc_drivers.specs.Steps.{Steps};
 
 use crate::code::Step;
-use crate::steps::cut;
+use crate::steps::{cut, scalar_of};
 use crate::{Item, Mode};
 
 // What a code of a lead and a byte behind it says of its bytes.
@@ -27,6 +28,22 @@ pub(crate) trait PairCode {
     fn both(&self, lead: u8, second: u8) -> Item
         requires { (pairs self.now).is_lead lead ≡ true }
         ensures { result ≡ (pairs self.now).both lead second };
+
+    // The entry of that where it is a scalar, or 0 where it isn't told.
+    fn pair_entry(&self, lead: u8, second: u8) -> u32
+        requires { (pairs self.now).is_lead lead ≡ true }
+        ensures { 0 < result → IsItemEntry ((pairs self.now).both lead second) result };
+}
+
+// The entry of the scalar of two bytes, or 0 where it isn't told.
+#[inline(always)]
+pub(crate) fn entry<P: PairCode>(pairs: &P, first: u8, second: u8) -> u32
+    ensures { 0 < result → IsPairEntry (pairs_unit (P.pairs pairs.now)) first second result }
+{
+    if !pairs.is_lead(first) {
+        return 0;
+    }
+    pairs.pair_entry(first, second)
 }
 
 // What a front tells of the unit there.
@@ -45,6 +62,23 @@ pub(crate) fn step<P: PairCode>(pairs: &P, mode: Mode, front: &[u8], last: bool)
     }
     let second = front[1];
     both(mode, pairs.both(first, second), second)
+}
+
+// The scalar at the front, and how many bytes it has.
+#[inline(always)]
+pub(crate) fn scalar<P: PairCode>(pairs: &P, bytes: &[u8]) -> Option<(char, usize)>
+    requires { 0 < length bytes.now }
+    ensures { IfSome result (λ found. BeginsWithScalar (pairs_unit (P.pairs pairs.now)) bytes.now
+        found.0 found.1) }
+{
+    let first = bytes[0];
+    if !pairs.is_lead(first) {
+        return scalar_of(pairs.alone(first), 1);
+    }
+    if bytes.len() < 2 {
+        return None;
+    }
+    scalar_of(pairs.both(first, bytes[1]), 2)
 }
 
 // One byte that stands for an item.

@@ -8,11 +8,12 @@ use crate::code::Step;
 use crate::steps::malformed;
 use crate::{Item, Mode};
 
-// So many bytes, of which `last` is the last, with the scalar that they have: without one they are malformed, but for
-// `last` where it is ASCII.
+// So many bytes, of which `last` is the last, with the scalar that they have: without one they are
+// malformed, but for `last` where it is ASCII.
 pub(crate) fn sequence(mode: Mode, scalar: Option<char>, length: u8, last: u8) -> Step
     requires { 1 ≤ length }
-    ensures { let u = sequence_unit mode scalar length last in result ≡ step.Unit u.item u.len u.next }
+    ensures { let u = sequence_unit mode scalar length last in result
+        ≡ step.Unit u.item u.len u.next }
 {
     match scalar {
         Some(scalar) => one(mode, scalar, length),

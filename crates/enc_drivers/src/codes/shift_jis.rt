@@ -1,6 +1,7 @@
 //! Shift_JIS (Encoding Standard, section 12.3.1, Shift_JIS decoder).
 
 ghost use Rattle.std.specs.Prelude.{◌≡◌, ◌<◌, ◌≤◌, ◌||◌, true};
+ghost use Rattle.enc_drivers.specs.Bulk.{IsItemEntry};
 ghost use Rattle.enc_drivers.specs.Codes.ShiftJis.{is_shift_jis_lead, is_shift_jis_trail, shift_jis_place, shift_jis_at, shift_jis_alone, shift_jis_pairs, shift_jis_unit};
 
 use crate::code::{Bulk, Code, Step};
@@ -40,6 +41,16 @@ impl<'t, L: Lookup> Code for ShiftJis<'t, L> {
         Bulk::Ascii
     }
 
+    #[inline(always)]
+    fn scalar(&self, bytes: &[u8]) -> Option<(char, usize)> {
+        pairs::scalar(self, bytes)
+    }
+
+    #[inline(always)]
+    fn entry(&self, first: u8, second: u8) -> u32 {
+        pairs::entry(self, first, second)
+    }
+
     ghost laws = { λ code. shift_jis_law (L.places code.jis0208.now) (L.scalars code.jis0208.now) };
 }
 
@@ -60,6 +71,14 @@ impl<'t, L: Lookup> PairCode for ShiftJis<'t, L> {
             return Item::Malformed;
         }
         at(self.jis0208, place(lead, second))
+    }
+
+    #[inline(always)]
+    fn pair_entry(&self, lead: u8, second: u8) -> u32 {
+        if !is_trail(second) {
+            return 0;
+        }
+        entry_at(self.jis0208, place(lead, second))
     }
 }
 
@@ -98,6 +117,18 @@ fn place(lead: u8, trail: u8) -> u32
     let lead_offset = if lead < 0xA0 { 0x81 } else { 0xC1 };
     let offset = if trail < 0x7F { 0x40 } else { 0x41 };
     u32::from(lead - lead_offset) * 188 + u32::from(trail - offset)
+}
+
+// The entry of what the index has at a place, or 0.
+#[inline(always)]
+#[tactic(auto, unfolding(crate::specs::Codes::ShiftJis::shift_jis_at))]
+fn entry_at<L: Lookup>(jis0208: &L, place: u32) -> u32
+    ensures { 0 < result → IsItemEntry (shift_jis_at (L.places jis0208.now) place) result }
+{
+    if 8836 <= place && place <= 10715 {
+        return 0;
+    }
+    jis0208.entry(place)
 }
 
 // What stands at a place.

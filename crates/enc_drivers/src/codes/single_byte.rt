@@ -1,13 +1,18 @@
-//! Encodings of one byte a scalar with an index (Encoding Standard, section 9.1, single-byte decoder).
+//! Encodings of one byte a scalar with an index (Encoding Standard, section 9.1, single-byte
+//! decoder).
 
-ghost use Rattle.std.specs.Prelude.{◌≡◌};
+ghost use Rattle.std.specs.Prelude.{◌≡◌, ◌<◌, ◌≤◌, length, slice_index, take, IfSome};
+ghost use Rattle.enc_drivers.specs.Codes.SingleByte.{TellsEach};
 ghost use Rattle.enc_drivers.specs.Lookup.{HasNoAstral};
-ghost use Rattle.enc_drivers.specs.Codes.SingleByte.{single_byte_item, single_byte_unit};
+ghost use Rattle.enc_drivers.specs.Codes.SingleByte.{single_byte_item, single_byte_unit, single_byte_bytes_of};
 
 use crate::code::{Bulk, Code, Step};
+use crate::encode::EncodeCode;
 use crate::lookup::Lookup;
+use crate::steps::scalar_of;
 use crate::{Item, Mode};
 
+mod encode;
 #[cfg(test)]
 mod tests;
 
@@ -22,7 +27,10 @@ impl<'t, L: Lookup> SingleByte<'t, L> {
     /// The code of an index that has no scalar above U+FFFF.
     pub fn new(index: &'t L) -> SingleByte<'t, L>
         requires { HasNoAstral (L.places index.now) }
-        ensures { ⟦<SingleByte<'t, L> as Code>⟧.unit result ≡ single_byte_unit (L.places index.now) }
+        ensures units { ⟦<SingleByte<'t, L> as Code>⟧.unit result
+            ≡ single_byte_unit (L.places index.now) }
+        ensures bytes { ⟦<SingleByte<'t, L> as EncodeCode>⟧.bytes result
+            ≡ single_byte_bytes_of (L.places index.now) }
     {
         SingleByte { index }
     }
@@ -47,7 +55,44 @@ impl<'t, L: Lookup> Code for SingleByte<'t, L> {
         Bulk::Ascii
     }
 
+    #[inline(always)]
+    fn scalar(&self, bytes: &[u8]) -> Option<(char, usize)> {
+        scalar_of(item_of(self.index, bytes[0]), 1)
+    }
+
+    #[inline(always)]
+    fn block(&self, bytes: &[u8]) -> Option<[u32; 8]> {
+        let entries = self.index.byte_entries()?;
+        block_of(entries, bytes)
+    }
+
     ghost laws = { λ code. single_byte_law (L.places code.index.now) (L.scalars code.index.now) code.no_astral };
+}
+
+// The entries of the first eight bytes, where each has one.
+#[inline(always)]
+fn block_of(entries: &[u32; 256], bytes: &[u8]) -> Option<[u32; 8]>
+    requires { 8 ≤ length bytes.now }
+    ensures { IfSome result (λ block. TellsEach entries.now (take 8 bytes.now) block) }
+{
+    let first = entry_of(entries, bytes[0])?;
+    let second = entry_of(entries, bytes[1])?;
+    let third = entry_of(entries, bytes[2])?;
+    let fourth = entry_of(entries, bytes[3])?;
+    let fifth = entry_of(entries, bytes[4])?;
+    let sixth = entry_of(entries, bytes[5])?;
+    let seventh = entry_of(entries, bytes[6])?;
+    let eighth = entry_of(entries, bytes[7])?;
+    Some([first, second, third, fourth, fifth, sixth, seventh, eighth])
+}
+
+// The entry of a byte, if it has one.
+#[inline(always)]
+fn entry_of(entries: &[u32; 256], byte: u8) -> Option<u32>
+    ensures { IfSome result (λ entry. (0 < entry) × (entry ≡ slice_index entries.now byte)) }
+{
+    let entry = entries[usize::from(byte)];
+    if entry == 0 { None } else { Some(entry) }
 }
 
 // What a byte stands for.

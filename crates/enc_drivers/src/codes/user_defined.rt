@@ -1,11 +1,13 @@
 //! x-user-defined (Encoding Standard, section 14.5).
 
 ghost use Rattle.std.specs.Prelude.{◌≡◌};
-ghost use Rattle.enc_drivers.specs.Codes.UserDefined.{user_defined_scalar, user_defined_unit};
+ghost use Rattle.enc_drivers.specs.Codes.UserDefined.{user_defined_scalar, user_defined_unit, user_defined_bytes_of};
 
 use crate::code::{Bulk, Code, Step};
+use crate::encode::EncodeCode;
 use crate::{Item, Mode};
 
+mod encode;
 #[cfg(test)]
 mod tests;
 
@@ -16,7 +18,8 @@ pub struct UserDefined;
 impl UserDefined {
     /// The code.
     pub fn new() -> UserDefined
-        ensures { ⟦<UserDefined as Code>⟧.unit result ≡ user_defined_unit }
+        ensures units { ⟦<UserDefined as Code>⟧.unit result ≡ user_defined_unit }
+        ensures bytes { ⟦<UserDefined as EncodeCode>⟧.bytes result ≡ user_defined_bytes_of }
     {
         UserDefined
     }
@@ -39,6 +42,11 @@ impl Code for UserDefined {
 
     fn bulk(&self) -> Bulk {
         Bulk::Ascii
+    }
+
+    #[inline(always)]
+    fn scalar(&self, bytes: &[u8]) -> Option<(char, usize)> {
+        Some((scalar_of(bytes[0]), 1))
     }
 
     ghost laws = { λ code. user_defined_law };

@@ -5,13 +5,16 @@ ghost use Rattle.enc_handles.specs.Utf16.{code_unit, is_lead, is_trail, pair_sca
 ghost use Rattle.enc_drivers.specs.declared.code.Step.TheVariants as step;
 ghost use Rattle.enc_drivers.specs.Steps.{Steps};
 ghost use Rattle.enc_drivers.specs.Codes.Utf16.{single_unit, utf16_unit};
+ghost use Rattle.enc_drivers.specs.Codes.Utf8.{utf8_bytes_of};
 
 use crate::code::{Bulk, Code, Step};
+use crate::encode::EncodeCode;
 use crate::steps::{cut, malformed};
 use crate::{Item, Mode};
 use enc_handles::endian::Endian;
 use std::marker::PhantomData;
 
+mod encode;
 #[cfg(test)]
 mod tests;
 
@@ -24,7 +27,8 @@ pub struct Utf16Code<E: Endian> {
 impl<E: Endian> Utf16Code<E> {
     /// The code.
     pub fn new() -> Utf16Code<E>
-        ensures { ⟦<Utf16Code<E> as Code>⟧.unit result ≡ utf16_unit E.OPPOSITE_ENDIAN }
+        ensures units { ⟦<Utf16Code<E> as Code>⟧.unit result ≡ utf16_unit E.OPPOSITE_ENDIAN }
+        ensures bytes { ⟦<Utf16Code<E> as EncodeCode>⟧.bytes result ≡ utf8_bytes_of }
     {
         Utf16Code { order: PhantomData }
     }

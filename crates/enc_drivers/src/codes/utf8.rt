@@ -2,14 +2,18 @@
 
 ghost use Rattle.std.specs.Prelude.{◌≡◌, ◌<◌, length, slice_index, ◌&&◌, ◌||◌, ◌==◌};
 ghost use Rattle.enc_handles.specs.Utf8.{byte_in, begins_two, begins_three, begins_four, sequence_len, sequence_scalar};
-ghost use Rattle.enc_drivers.specs.Codes.Utf8.{begins_pair, two_of_three, two_of_four, malformed_len, utf8_unit};
+ghost use Rattle.enc_drivers.specs.Codes.Utf8.{begins_pair, two_of_three, two_of_four, malformed_len, utf8_unit, utf8_bytes_of};
 
 use crate::code::{Bulk, Code, Step};
+use crate::encode::EncodeCode;
 use crate::steps::{cut, malformed};
 use crate::{Item, Mode};
 
+mod encode;
 #[cfg(test)]
 mod tests;
+
+pub(crate) use encode::utf8_of;
 
 /// The code of UTF-8.
 #[derive(Clone, Copy, Debug, PartialEq, Eq)]
@@ -18,7 +22,8 @@ pub struct Utf8Code;
 impl Utf8Code {
     /// The code.
     pub fn new() -> Utf8Code
-        ensures { ⟦<Utf8Code as Code>⟧.unit result ≡ utf8_unit }
+        ensures units { ⟦<Utf8Code as Code>⟧.unit result ≡ utf8_unit }
+        ensures bytes { ⟦<Utf8Code as EncodeCode>⟧.bytes result ≡ utf8_bytes_of }
     {
         Utf8Code
     }
@@ -113,7 +118,8 @@ fn two_of_four(front: &[u8]) -> bool
 
 // Whether a sequence of three bytes is at the front.
 fn begins_some_three(front: &[u8]) -> bool
-    ensures { result ≡ (begins_three front.now 0xE0 0xE0 0xA0 0xBF || begins_three front.now 0xE1 0xEC 0x80 0xBF
+    ensures { result ≡ (begins_three front.now 0xE0 0xE0 0xA0 0xBF || begins_three front.now 0xE1
+        0xEC 0x80 0xBF
         || begins_three front.now 0xED 0xED 0x80 0x9F || begins_three front.now 0xEE 0xEF 0x80 0xBF) }
 {
     begins_three(front, 0xE0, 0xE0, 0xA0, 0xBF)
@@ -124,7 +130,8 @@ fn begins_some_three(front: &[u8]) -> bool
 
 // Whether a sequence of four bytes is at the front.
 fn begins_some_four(front: &[u8]) -> bool
-    ensures { result ≡ (begins_four front.now 0xF0 0xF0 0x90 0xBF || begins_four front.now 0xF1 0xF3 0x80 0xBF
+    ensures { result ≡ (begins_four front.now 0xF0 0xF0 0x90 0xBF || begins_four front.now 0xF1 0xF3
+        0x80 0xBF
         || begins_four front.now 0xF4 0xF4 0x80 0x8F) }
 {
     begins_four(front, 0xF0, 0xF0, 0x90, 0xBF)

@@ -1,11 +1,13 @@
 //! windows-1252 (Encoding Standard, section 9.1, and index windows-1252).
 
 ghost use Rattle.std.specs.Prelude.{◌≡◌};
-ghost use Rattle.enc_drivers.specs.Codes.Windows1252.{windows_1252_scalar, windows_1252_unit};
+ghost use Rattle.enc_drivers.specs.Codes.Windows1252.{windows_1252_scalar, windows_1252_unit, windows_1252_bytes_of};
 
 use crate::code::{Bulk, Code, Step};
+use crate::encode::EncodeCode;
 use crate::{Item, Mode};
 
+mod encode;
 #[cfg(test)]
 mod tests;
 
@@ -24,7 +26,8 @@ pub struct Windows1252;
 impl Windows1252 {
     /// The code.
     pub fn new() -> Windows1252
-        ensures { ⟦<Windows1252 as Code>⟧.unit result ≡ windows_1252_unit }
+        ensures units { ⟦<Windows1252 as Code>⟧.unit result ≡ windows_1252_unit }
+        ensures bytes { ⟦<Windows1252 as EncodeCode>⟧.bytes result ≡ windows_1252_bytes_of }
     {
         Windows1252
     }
@@ -47,6 +50,11 @@ impl Code for Windows1252 {
 
     fn bulk(&self) -> Bulk {
         Bulk::Ascii
+    }
+
+    #[inline(always)]
+    fn scalar(&self, bytes: &[u8]) -> Option<(char, usize)> {
+        Some((scalar_of(bytes[0]), 1))
     }
 
     ghost laws = { λ code. windows_1252_law };

@@ -1,4 +1,5 @@
-//! The general driver: one body decodes any code, in any pieces, to UTF-8 or UTF-16. The other drivers call it.
+//! The general driver: one body decodes any code, in any pieces, to UTF-8 or UTF-16. The other
+//! drivers call it.
 ghost use Rattle.std.specs.Prelude.{◌≡◌, ℕ, ◌+◌, ◌-◌, ◌<◌, ◌≤◌, [], Bool, None, length, take, drop, true, false, encode_utf8};
 ghost use Rattle.std.specs.Char.Escape.{encode_utf16};
 ghost use Rattle.enc_handles.specs.Ascii.{moved_len, moved_text};
@@ -18,6 +19,7 @@ use crate::{Item, Mode};
 use enc_handles::byte_source::ByteSource;
 use enc_handles::destination::{Destination, DestinationOver, Utf8Destination, Utf16Destination};
 use enc_handles::endian::{BigEndian, Endian, LittleEndian};
+use enc_handles::entry::entry_of;
 use enc_handles::results::DecoderResult;
 use enc_handles::space::{CopyAsciiResult, Space};
 use enc_handles::unit_slice::UnitSlice;
@@ -36,6 +38,7 @@ pub struct GeneralDriver<C: Code> {
 
 impl<C: Code> GeneralDriver<C> {
     ghost use Rattle.enc_drivers.specs.declared.unit.Mode.{Mode};
+    ghost use Rattle.enc_drivers.specs.Bulk.{KeepsAscii, BeginsWithEntry};
     ghost use Rattle.enc_drivers.specs.Driver.{standing, unit_of};
     ghost use Rattle.enc_drivers.specs.Turn.{StepsFront, Looks, Goes, Ends, EndsOrGoesOn, malformed_if_ends};
     ghost use Rattle.enc_drivers.specs.Decodes.{DecodesRaw};
@@ -53,13 +56,14 @@ impl<C: Code> GeneralDriver<C> {
         }
     }
 
-    /// Decodes to UTF-8: reads bytes of `src` and writes bytes to the front of `dst`, and answers how many. `last` says
-    /// that `src` ends the stream.
+    /// Decodes to UTF-8: reads bytes of `src` and writes bytes to the front of `dst`, and answers
+    /// how many. `last` says that `src` ends the stream.
     ///
-    /// `InputEmpty`: `src` was read, and at most three bytes are held, whose unit depends on what follows; with `last`
-    /// none. `OutputFull`: fewer than four bytes are free, and something is left. `Malformed(n, k)`: a malformed unit of
-    /// `n` bytes was met, and `k` bytes behind it are held, all of which were needed to tell; the next call goes on with
-    /// these. Bytes of `dst` behind the text are free to change.
+    /// `InputEmpty`: `src` was read, and at most three bytes are held, whose unit depends on what
+    /// follows; with `last` none. `OutputFull`: fewer than four bytes are free, and something is
+    /// left. `Malformed(n, k)`: a malformed unit of `n` bytes was met, and `k` bytes behind it are
+    /// held, all of which were needed to tell; the next call goes on with these. Bytes of `dst`
+    /// behind the text are free to change.
     pub fn decode_to_utf8_raw(
         &mut self,
         src: &[u8],
@@ -73,8 +77,8 @@ impl<C: Code> GeneralDriver<C> {
         self.decode(src, &mut dest, last)
     }
 
-    /// Decodes to UTF-16, as `decode_to_utf8_raw`: the second number is of 16-bit code units, and `OutputFull` comes only
-    /// where fewer than two are free.
+    /// Decodes to UTF-16, as `decode_to_utf8_raw`: the second number is of 16-bit code units, and
+    /// `OutputFull` comes only where fewer than two are free.
     pub fn decode_to_utf16_raw(
         &mut self,
         src: &[u8],
@@ -91,7 +95,8 @@ impl<C: Code> GeneralDriver<C> {
     // The unit of a front, or `More` where it is empty or undecided.
     fn step(&self, front: &[u8], last: bool) -> Step
         requires { length front.now ≤ 4 }
-        ensures { StepsFront (unit_of self.now) last (record { held = front.now; mode = (standing self.now).mode }) result }
+        ensures { StepsFront (unit_of self.now) last
+            (record { held = front.now; mode = (standing self.now).mode }) result }
     {
         if front.is_empty() {
             return Step::More;
@@ -99,10 +104,12 @@ impl<C: Code> GeneralDriver<C> {
         self.code.step(self.mode, front, last)
     }
 
-    // Reads until the front has its unit whatever follows, or nothing is left; answers besides how many bytes it read.
+    // Reads until the front has its unit whatever follows, or nothing is left; answers besides how
+    // many bytes it read.
     fn look(&self, front: &mut Front, src: &[u8], last: bool) -> (Step, usize)
         requires { length (front_bytes front.old) ≤ 3 }
-        ensures { Looks (unit_of self.now) (standing self.now).mode last (front_bytes front.old) (front_bytes front.new) src.now result.1 result.0 }
+        ensures { Looks (unit_of self.now) (standing self.now).mode last (front_bytes front.old)
+            (front_bytes front.new) src.now result.1 result.0 }
     {
         let mut read = 0;
         while read < src.len() {
@@ -123,9 +130,11 @@ impl<C: Code> GeneralDriver<C> {
         dest: &mut DestinationOver<S>,
         last: bool,
     ) -> (Option<DecoderResult>, usize)
-        ensures goes { Goes (unit_of self.old) S.encode last (standing self.old) (standing self.new) src.now result.1
+        ensures goes { Goes (unit_of self.old) S.encode last (standing self.old) (standing self.new)
+            src.now result.1
             (writing dest.old) (writing dest.new) (malformed_if_ends result.0) }
-        ensures ends { EndsOrGoesOn (unit_of self.old) last (standing self.old) (standing self.new) src.now result.1
+        ensures ends { EndsOrGoesOn (unit_of self.old) last (standing self.old) (standing self.new)
+            src.now result.1
             (writing dest.new).free S.astral_room result.0 }
         ensures same_code { unit_of self.new ≡ unit_of self.old }
     {
@@ -161,7 +170,8 @@ impl<C: Code> GeneralDriver<C> {
         (Some(DecoderResult::OutputFull), read)
     }
 
-    // Where nothing is held: moves what can be moved in one go, then unit after unit, and goes back where that is worth it.
+    // Where nothing is held: moves what can be moved in one go, then unit after unit, and goes back
+    // where that is worth it.
     fn run<S: UnitSlice>(
         &mut self,
         src: &[u8],
@@ -169,9 +179,11 @@ impl<C: Code> GeneralDriver<C> {
         last: bool,
     ) -> (Option<DecoderResult>, usize)
         requires { (standing self.old).held ≡ [] }
-        ensures goes { Goes (unit_of self.old) S.encode last (standing self.old) (standing self.new) src.now result.1
+        ensures goes { Goes (unit_of self.old) S.encode last (standing self.old) (standing self.new)
+            src.now result.1
             (writing dest.old) (writing dest.new) (malformed_if_ends result.0) }
-        ensures ends { EndsOrGoesOn (unit_of self.old) last (standing self.old) (standing self.new) src.now result.1
+        ensures ends { EndsOrGoesOn (unit_of self.old) last (standing self.old) (standing self.new)
+            src.now result.1
             (writing dest.new).free S.astral_room result.0 }
         ensures same_code { unit_of self.new ≡ unit_of self.old }
     {
@@ -182,7 +194,7 @@ impl<C: Code> GeneralDriver<C> {
             if let Some(result) = result {
                 return (Some(result), read);
             }
-            if self.is_run(&src[read..]) {
+            if self.is_run() {
                 return (None, read);
             }
         }
@@ -199,9 +211,11 @@ impl<C: Code> GeneralDriver<C> {
     ) -> (Option<DecoderResult>, usize)
         requires nothing { (standing self.old).held ≡ [] }
         requires some { 0 < length src.now }
-        ensures goes { Goes (unit_of self.old) S.encode last (standing self.old) (standing self.new) src.now result.1
+        ensures goes { Goes (unit_of self.old) S.encode last (standing self.old) (standing self.new)
+            src.now result.1
             (writing dest.old) (writing dest.new) (malformed_if_ends result.0) }
-        ensures ends { EndsOrGoesOn (unit_of self.old) last (standing self.old) (standing self.new) src.now result.1
+        ensures ends { EndsOrGoesOn (unit_of self.old) last (standing self.old) (standing self.new)
+            src.now result.1
             (writing dest.new).free S.astral_room result.0 }
         ensures nothing { result.0 ≡ None → (standing self.new).held ≡ [] }
         ensures same_code { unit_of self.new ≡ unit_of self.old }
@@ -225,30 +239,174 @@ impl<C: Code> GeneralDriver<C> {
         (None, usize::from(length))
     }
 
-    // Where nothing is held: moves what can be moved in one go, and answers how many bytes that were.
+    // Where nothing is held: moves what can be moved in one go, and answers how many bytes that
+    // were.
     #[inline(always)]
     fn copy_run<S: UnitSlice>(&self, src: &[u8], dest: &mut DestinationOver<S>) -> usize
-        ensures { (last : Bool) (mode : Mode) → Goes (unit_of self.now) S.encode last (record { held = []; mode = mode }) (record { held = []; mode = mode })
+        ensures { (last : Bool) (mode : Mode) → Goes (unit_of self.now) S.encode last
+            (record { held = []; mode = mode }) (record { held = []; mode = mode })
             src.now result (writing dest.old) (writing dest.new) [] }
     {
         match self.code.bulk() {
             Bulk::None => 0,
-            Bulk::Ascii => copy_ascii(src, dest),
+            Bulk::Ascii => self.copy_text(src, dest),
             Bulk::Utf8 => copy_utf8(src, dest),
             Bulk::Utf16Le => copy_utf16::<LittleEndian, S>(src, dest),
             Bulk::Utf16Be => copy_utf16::<BigEndian, S>(src, dest),
         }
     }
 
-    // Whether what follows is worth a copy: any text of an encoding that is copied whole, and ASCII but punctuation, digits and
-    // spaces, which stand between other characters.
+    // Where the code keeps ASCII: moves ASCII and what the code tells of other text, in turn.
     #[inline(always)]
-    fn is_run(&self, src: &[u8]) -> bool {
-        match self.code.bulk() {
-            Bulk::None => false,
-            Bulk::Ascii => !src.is_empty() && 0x3C <= src[0] && src[0] < 0x80,
-            Bulk::Utf8 | Bulk::Utf16Le | Bulk::Utf16Be => true,
+    fn copy_text<S: UnitSlice>(&self, src: &[u8], dest: &mut DestinationOver<S>) -> usize
+        requires { KeepsAscii (unit_of self.now) }
+        ensures { (last : Bool) (mode : Mode) → Goes (unit_of self.now) S.encode last
+            (record { held = []; mode = mode }) (record { held = []; mode = mode })
+            src.now result (writing dest.old) (writing dest.new) [] }
+    {
+        let mut read = 0;
+        while read < src.len() {
+            let more = self.copy_part(&src[read..], dest);
+            read += more;
+            if more == 0 || !begins_run(&src[read..]) {
+                return read;
+            }
         }
+        read
+    }
+
+    // ASCII at the front, and then other text.
+    #[inline(always)]
+    fn copy_part<S: UnitSlice>(&self, src: &[u8], dest: &mut DestinationOver<S>) -> usize
+        requires { KeepsAscii (unit_of self.now) }
+        ensures within { result ≤ length src.now }
+        ensures goes { (last : Bool) (mode : Mode)
+            → Goes (unit_of self.now) S.encode last (record { held = []; mode = mode })
+            (record { held = []; mode = mode })
+            src.now result (writing dest.old) (writing dest.new) [] }
+    {
+        let ascii = self.copy_ascii_run(src, dest);
+        let blocks = ascii + self.copy_blocks(&src[ascii..], dest);
+        let entries = blocks + self.copy_entries(&src[blocks..], dest);
+        entries + self.copy_scalars(&src[entries..], dest)
+    }
+
+    // Moves ASCII.
+    #[inline(always)]
+    fn copy_ascii_run<S: UnitSlice>(&self, src: &[u8], dest: &mut DestinationOver<S>) -> usize
+        requires { KeepsAscii (unit_of self.now) }
+        ensures within { result ≤ length src.now }
+        ensures goes { (last : Bool) (mode : Mode)
+            → Goes (unit_of self.now) S.encode last (record { held = []; mode = mode })
+            (record { held = []; mode = mode })
+            src.now result (writing dest.old) (writing dest.new) [] }
+    {
+        if src.is_empty() || src[0] >= 0x80 {
+            return 0;
+        }
+        copy_ascii(src, dest)
+    }
+
+    // Moves eight bytes at a time, as far as the code tells their scalars and there is room, up to
+    // ASCII that is worth a copy of its own. It doesn't begin where the second byte isn't told, as
+    // in text that is malformed or has few bytes past ASCII.
+    #[inline(always)]
+    fn copy_blocks<S: UnitSlice>(&self, src: &[u8], dest: &mut DestinationOver<S>) -> usize
+        ensures within { result ≤ length src.now }
+        ensures goes { (last : Bool) (mode : Mode)
+            → Goes (unit_of self.now) S.encode last (record { held = []; mode = mode })
+            (record { held = []; mode = mode })
+            src.now result (writing dest.old) (writing dest.new) [] }
+    {
+        if src.len() < 8 || src[1] < 0x80 || self.code.scalar(&src[1..]).is_none() {
+            return 0;
+        }
+        let mut read = 0;
+        while src.len() - read >= 8 && !begins_run(&src[read..]) {
+            let Some(entries) = self.code.block(&src[read..]) else {
+                return read;
+            };
+            if !dest.write_entries(&entries) {
+                return read;
+            }
+            read += 8;
+        }
+        read
+    }
+
+    // Moves one scalar at a time, as far as the code tells its entry and there is room, up to ASCII
+    // that is worth a copy of its own. It doesn't begin where two bytes at the front aren't told,
+    // as in a code without entries.
+    #[inline(always)]
+    fn copy_entries<S: UnitSlice>(&self, src: &[u8], dest: &mut DestinationOver<S>) -> usize
+        requires { KeepsAscii (unit_of self.now) }
+        ensures within { result ≤ length src.now }
+        ensures goes { (last : Bool) (mode : Mode)
+            → Goes (unit_of self.now) S.encode last (record { held = []; mode = mode })
+            (record { held = []; mode = mode })
+            src.now result (writing dest.old) (writing dest.new) [] }
+    {
+        if src.len() < 2 || self.code.entry(src[0], src[1]) == 0 {
+            return 0;
+        }
+        let mut read = 0;
+        while read < src.len() && !begins_run(&src[read..]) {
+            let (entry, length) = self.entry_at(&src[read..]);
+            if entry == 0 {
+                return read;
+            }
+            if !dest.write_entry(entry) {
+                return read;
+            }
+            read += length;
+        }
+        read
+    }
+
+    // The entry of the scalar at the front, and how many bytes it has; 0 where it isn't told.
+    #[inline(always)]
+    fn entry_at(&self, bytes: &[u8]) -> (u32, usize)
+        requires ascii { KeepsAscii (unit_of self.now) }
+        requires some { 0 < length bytes.now }
+        ensures { 0 < result.0 → BeginsWithEntry (unit_of self.now) bytes.now result.0 result.1 }
+    {
+        let first = bytes[0];
+        if first < 0x80 {
+            return (entry_of(u16::from(first)), 1);
+        }
+        if bytes.len() < 2 {
+            return (0, 1);
+        }
+        (self.code.entry(first, bytes[1]), 2)
+    }
+
+    // Moves one scalar at a time, as far as the code tells it and there is room, up to ASCII that
+    // is worth a copy of its own.
+    #[inline(always)]
+    fn copy_scalars<S: UnitSlice>(&self, src: &[u8], dest: &mut DestinationOver<S>) -> usize
+        ensures within { result ≤ length src.now }
+        ensures goes { (last : Bool) (mode : Mode)
+            → Goes (unit_of self.now) S.encode last (record { held = []; mode = mode })
+            (record { held = []; mode = mode })
+            src.now result (writing dest.old) (writing dest.new) [] }
+    {
+        let mut read = 0;
+        while read < src.len() && !begins_run(&src[read..]) {
+            let Some((scalar, length)) = self.code.scalar(&src[read..]) else {
+                return read;
+            };
+            if !write_item(dest, Item::One(scalar)) {
+                return read;
+            }
+            read += length;
+        }
+        read
+    }
+
+    // Whether what follows may be worth a copy.
+    #[inline(always)]
+    fn is_run(&self) -> bool {
+        !matches!(self.code.bulk(), Bulk::None)
     }
 
     // Decodes until the source or the room ends, or a unit is malformed.
@@ -258,9 +416,11 @@ impl<C: Code> GeneralDriver<C> {
         dest: &mut DestinationOver<S>,
         last: bool,
     ) -> (DecoderResult, usize, usize)
-        ensures goes { Goes (unit_of self.old) S.encode last (standing self.old) (standing self.new) src.now result.1
+        ensures goes { Goes (unit_of self.old) S.encode last (standing self.old) (standing self.new)
+            src.now result.1
             (writing dest.old) (writing dest.new) (malformed_of result.0) }
-        ensures ends { Ends (unit_of self.old) last (standing self.new) (drop result.1 src.now) (writing dest.new).free S.astral_room result.0 }
+        ensures ends { Ends (unit_of self.old) last (standing self.new) (drop result.1 src.now)
+            (writing dest.new).free S.astral_room result.0 }
         ensures written { result.2 ≡ length (writing dest.new).text }
         ensures same_code { unit_of self.new ≡ unit_of self.old }
     {
@@ -275,12 +435,20 @@ impl<C: Code> GeneralDriver<C> {
     }
 }
 
+// Whether ASCII stands at the front but punctuation, digits and spaces, which stand between other
+// characters.
+#[inline(always)]
+fn begins_run(src: &[u8]) -> bool {
+    !src.is_empty() && 0x3C <= src[0] && src[0] < 0x80
+}
+
 // Writes an item where any has room.
 #[inline(always)]
 fn write_item<S: UnitSlice>(dest: &mut DestinationOver<S>, item: Item) -> bool
     requires { HasScalars item }
     ensures room { result ≡ false → (writing dest.new).free < S.astral_room }
-    ensures written { result ≡ true → writing dest.new ≡ after_writing (writing dest.old) (item_in S.encode item) }
+    ensures written { result ≡ true → writing dest.new
+        ≡ after_writing (writing dest.old) (item_in S.encode item) }
     ensures fits { result ≡ true → length (item_in S.encode item) ≤ (writing dest.old).free }
     ensures full { result ≡ false → writing dest.new ≡ writing dest.old }
 {
@@ -319,7 +487,8 @@ fn first_four(src: &[u8]) -> &[u8]
 // Moves the ASCII at the front, as far as there is room, and answers how many bytes that were.
 fn copy_ascii<S: UnitSlice>(src: &[u8], dest: &mut DestinationOver<S>) -> usize
     ensures count { result ≡ moved_len src.now (writing dest.old).free }
-    ensures text { writing dest.new ≡ after_writing (writing dest.old) (moved_text S.encode src.now (writing dest.old).free) }
+    ensures text { writing dest.new ≡ after_writing (writing dest.old)
+        (moved_text S.encode src.now (writing dest.old).free) }
 {
     let mut source = ByteSource::new(src);
     match dest.copy_ascii_from_check_space_astral(&mut source) {
@@ -328,18 +497,22 @@ fn copy_ascii<S: UnitSlice>(src: &[u8], dest: &mut DestinationOver<S>) -> usize
     }
 }
 
-// Moves the whole well-formed sequences of UTF-8 at the front, as far as there is room, and answers how many bytes they were.
+// Moves the whole well-formed sequences of UTF-8 at the front, as far as there is room, and answers
+// how many bytes they were.
 fn copy_utf8<S: UnitSlice>(src: &[u8], dest: &mut DestinationOver<S>) -> usize
-    ensures { CopiesScalars encode_utf8 S.encode src.now result (writing dest.old) (writing dest.new) }
+    ensures { CopiesScalars encode_utf8 S.encode src.now result (writing dest.old)
+        (writing dest.new) }
 {
     let mut source = ByteSource::new(src);
     dest.copy_utf8_up_to_invalid_from(&mut source);
     source.consumed()
 }
 
-// Moves code units at the front up to an unpaired surrogate, as far as there is room, and answers how many bytes they were.
+// Moves code units at the front up to an unpaired surrogate, as far as there is room, and answers
+// how many bytes they were.
 fn copy_utf16<E: Endian, S: UnitSlice>(src: &[u8], dest: &mut DestinationOver<S>) -> usize
-    ensures { CopiesScalars (scalar_bytes E.OPPOSITE_ENDIAN) S.encode src.now result (writing dest.old) (writing dest.new) }
+    ensures { CopiesScalars (scalar_bytes E.OPPOSITE_ENDIAN) S.encode src.now result
+        (writing dest.old) (writing dest.new) }
 {
     let mut source = ByteSource::new(src);
     match dest.copy_utf16_from::<E, &[u8]>(&mut source) {

@@ -9,7 +9,8 @@ use enc_handles::results::DecoderResult;
 #[cfg(test)]
 mod tests;
 
-/// A decoder of a code of one and two bytes over a stream in pieces. It doesn't replace malformed units.
+/// A decoder of a code of one and two bytes over a stream in pieces. It doesn't replace malformed
+/// units.
 #[derive(Drop)]
 pub struct TwoByteDriver<C: Code> {
     driver: GeneralDriver<C>,

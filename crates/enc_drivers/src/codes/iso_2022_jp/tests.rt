@@ -29,7 +29,8 @@ fn steps(rt: HostRuntime) {
     use Mode::*;
     let one = |scalar| Item::One(scalar);
     let bad = Item::Malformed;
-    // A mode, a front, whether it is decided before the end, and the unit that it has there and at the end.
+    // A mode, a front, whether it is decided before the end, and the unit that it has there and at
+    // the end.
     let rows: [(Mode, &[u8], bool, (Item, u8, Mode)); 21] = [
         (Plain, b"A", true, (one('A'), 1, Within(Ascii))),
         (Within(Ascii), b"\x5c", true, (one('\\'), 1, Within(Ascii))),

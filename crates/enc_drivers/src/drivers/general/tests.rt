@@ -27,7 +27,8 @@ fn holds_the_code_unit_behind_a_lead(rt: HostRuntime) {
     assert_eq!(rt; dst[0], b'A');
 }
 
-// Two pieces, and the answer to the second one, whose last number of a malformed unit counts what is held behind it.
+// Two pieces, and the answer to the second one, whose last number of a malformed unit counts what
+// is held behind it.
 type Cut = (&'static [u8], &'static [u8], (DecoderResult, usize, usize));
 
 fn check_held<C: Code + Drop>(rt: &impl Abort, code: C, row: &Cut) {

@@ -18,7 +18,8 @@ fn both_widths(rt: HostRuntime) {
     assert_eq!(rt; &units[..2], wanted.as_slice());
 }
 
-// The copy of ASCII stores a stride before it looks at it: behind the text stands what followed in the source.
+// The copy of ASCII stores a stride before it looks at it: behind the text stands what followed in
+// the source.
 #[test]
 fn copies_ascii_by_strides(rt: HostRuntime) {
     let mut driver = TwoByteDriver::new(EucKr::new(&Alphas));
