@@ -7,7 +7,8 @@ use Rattle.enc_front.specs.declared.index.AnyIndex.{AnyIndex}
 use Rattle.enc_front.specs.declared.index.AnyIndex.TheVariants.{OfCells, OfRanges}
 use Rattle.enc_front.specs.declared.tables.Entry.{Entry}
 use Rattle.enc_front.specs.declared.tables.IndexKind.{IndexKind}
-use Rattle.enc_front.specs.declared.tables.IndexKind.TheVariants.{Big5, EucKr, Jis0208, Jis0212, Gb18030, Gb18030Ranges, Single}
+use Rattle.enc_front.specs.declared.tables.IndexKind.TheVariants.{Big5, EucKr, Jis0208, Jis0212}
+use Rattle.enc_front.specs.declared.tables.IndexKind.TheVariants.{Gb18030, Gb18030Ranges, Single}
 use Rattle.enc_front.specs.declared.tables.Tables.{Tables}
 use Rattle.enc_front.specs.Index.{any_places}
 use Rattle.enc_front.specs.Indexes.{AreChecked, Indexes, indexes_of, of_entry, places_in}
@@ -47,7 +48,8 @@ none_is_astral : HasNoAstral (λ place. None)
 none_is_astral place c e = cc
 
 -- what holds of the first entry, or of those behind it
-by_first : (P : Places → Type 0) (first : IndexKind × Places) (indexes : Indexes) (kind : IndexKind) → (same_kind first.0 kind ≡ true → P first.1) → P (places_in indexes kind)
+by_first : (P : Places → Type 0) (first : IndexKind × Places) (indexes : Indexes) (kind : IndexKind)
+    → (same_kind first.0 kind ≡ true → P first.1) → P (places_in indexes kind)
     → P (places_in (first ∷ indexes) kind)
 by_first P first indexes kind here behind = by_test (same_kind first.0 kind) refl
   where
@@ -55,15 +57,19 @@ by_first P first indexes kind here behind = by_test (same_kind first.0 kind) ref
     by_test true h = rw h (here h)
     by_test false h = rw h behind
 
-finds_scalars : (entries : List Entry) (kind : IndexKind) → FindsScalars (places_in (map of_entry entries) kind)
+finds_scalars : (entries : List Entry) (kind : IndexKind)
+    → FindsScalars (places_in (map of_entry entries) kind)
 finds_scalars [] kind = none_is_scalar
 finds_scalars (entry ∷ entries) kind =
-    by_first (λ places. FindsScalars places) (of_entry entry) (map of_entry entries) kind (λ h. any_finds_scalars entry.index) (finds_scalars entries kind)
+    by_first (λ places. FindsScalars places) (of_entry entry) (map of_entry entries) kind
+    (λ h. any_finds_scalars entry.index) (finds_scalars entries kind)
 
-has_no_astral : (entries : List Entry) (kind : IndexKind) → is_bmp kind ≡ true → HasNoAstral (places_in (map of_entry entries) kind)
+has_no_astral : (entries : List Entry) (kind : IndexKind) → is_bmp kind ≡ true
+    → HasNoAstral (places_in (map of_entry entries) kind)
 has_no_astral [] kind b = none_is_astral
 has_no_astral (entry ∷ entries) kind b =
-    by_first (λ places. HasNoAstral places) (of_entry entry) (map of_entry entries) kind (λ h. entry.bmp (same_bmp entry.kind kind h b)) (has_no_astral entries kind b)
+    by_first (λ places. HasNoAstral places) (of_entry entry) (map of_entry entries) kind
+    (λ h. entry.bmp (same_bmp entry.kind kind h b)) (has_no_astral entries kind b)
 
 -- for the indexes that any tables hold
 pub checked_tables : (tables : Tables) → AreChecked (indexes_of tables)

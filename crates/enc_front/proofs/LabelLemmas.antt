@@ -2,8 +2,20 @@
 use Rattle.std.proofs.Common.{◌≡◌, map, refl}
 use Rattle.std.specs.Prelude.{Some}
 use Rattle.enc_front.specs.declared.encoding.Encoding.{Encoding}
-use Rattle.enc_front.specs.declared.encoding.Encoding.TheVariants.{Utf8, Utf16Be, Utf16Le, Windows1252, UserDefined, Single, Iso8859_8I, Gbk, Gb18030, Big5, EucJp, Iso2022Jp, ShiftJis, EucKr}
-use Rattle.enc_front.specs.declared.encoding.SingleName.TheVariants.{Ibm866, Iso8859_2, Iso8859_4, Iso8859_5, Iso8859_7, Iso8859_8, Iso8859_13, Iso8859_15, Koi8R, Koi8U, Macintosh, Windows874, Windows1250, Windows1251, Windows1253, Windows1254, Windows1255, Windows1256, Windows1257, Windows1258}
+use Rattle.enc_front.specs.declared.encoding.Encoding.TheVariants.{Utf8, Utf16Be, Utf16Le}
+use Rattle.enc_front.specs.declared.encoding.Encoding.TheVariants.{Windows1252, UserDefined, Single}
+use Rattle.enc_front.specs.declared.encoding.Encoding.TheVariants.{Iso8859_8I, Gbk, Gb18030, Big5}
+use Rattle.enc_front.specs.declared.encoding.Encoding.TheVariants.{EucJp, Iso2022Jp, ShiftJis}
+use Rattle.enc_front.specs.declared.encoding.Encoding.TheVariants.{EucKr}
+use Rattle.enc_front.specs.declared.encoding.SingleName.TheVariants.{Ibm866, Iso8859_2, Iso8859_4}
+use Rattle.enc_front.specs.declared.encoding.SingleName.TheVariants.{Iso8859_5, Iso8859_7}
+use Rattle.enc_front.specs.declared.encoding.SingleName.TheVariants.{Iso8859_8, Iso8859_13}
+use Rattle.enc_front.specs.declared.encoding.SingleName.TheVariants.{Iso8859_15, Koi8R, Koi8U}
+use Rattle.enc_front.specs.declared.encoding.SingleName.TheVariants.{Macintosh, Windows874}
+use Rattle.enc_front.specs.declared.encoding.SingleName.TheVariants.{Windows1250, Windows1251}
+use Rattle.enc_front.specs.declared.encoding.SingleName.TheVariants.{Windows1253, Windows1254}
+use Rattle.enc_front.specs.declared.encoding.SingleName.TheVariants.{Windows1255, Windows1256}
+use Rattle.enc_front.specs.declared.encoding.SingleName.TheVariants.{Windows1257, Windows1258}
 use Rattle.enc_front.specs.Encoding.{label, labels, name_text}
 
 pub name_is_label : (encoding : Encoding) → label (name_text encoding) ≡ Some encoding

@@ -2,6 +2,8 @@ pub mod AheadLemmas
 pub mod AsciiLemmas
 pub mod CallLemmas
 pub mod CheckedIndexes
+pub mod EncoderLemmas
+pub mod EntryLemmas
 pub mod IndexFileLemmas
 pub mod IndexLemmas
 pub mod KeyLemmas
@@ -9,6 +11,7 @@ pub mod LabelLemmas
 pub mod LabelSearch
 pub mod LeastRowLemmas
 pub mod MarkLemmas
+pub mod OutputLemmas
 pub mod RangeLemmas
 pub mod RowLemmas
 pub mod RunLemmas
@@ -17,3 +20,4 @@ pub mod StartLemmas
 pub mod TextLemmas
 pub mod UnitLaws
 pub mod WholeLemmas
+pub mod WriteLemmas

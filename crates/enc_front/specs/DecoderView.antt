@@ -37,7 +37,8 @@ place_of decoder = record {
 
 -- what a decoder keeps
 abbrev pub standing_of : Decoder → DecoderStanding
-standing_of decoder = record { place = place_of decoder; owes = decoder.owes; finished = decoder.finished }
+standing_of decoder =
+    record { place = place_of decoder; owes = decoder.owes; finished = decoder.finished }
 
 -- a decoder at the start of a stream
 abbrev pub fresh : Marks → Encoding → Indexes → DecoderStanding

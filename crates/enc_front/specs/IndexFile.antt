@@ -1,5 +1,8 @@
--- Index files (Encoding Standard, section 5): the pairs of a place and a scalar that the lines of a text have.
-use Rattle.std.specs.Prelude.{◌≡◌, ℕ, ◌+◌, ◌-◌, ◌*◌, ◌<◌, ◌==◌, nat_le, Bool, true, false, ◌&&◌, ◌||◌, if◌then◌else◌, List, [], ◌∷◌, ◌++◌, length, take, drop, fold, slice_index, Result, Ok, Err}
+-- Index files (Encoding Standard, section 5): the pairs of a place and a scalar that the lines of a
+-- text have.
+use Rattle.std.specs.Prelude.{◌≡◌, ℕ, ◌+◌, ◌-◌, ◌*◌, ◌<◌, ◌==◌, nat_le, Bool, true, false, ◌&&◌}
+use Rattle.std.specs.Prelude.{◌||◌, if◌then◌else◌, List, [], ◌∷◌, ◌++◌, length, take, drop, fold}
+use Rattle.std.specs.Prelude.{slice_index, Result, Ok, Err}
 use Rattle.std.specs.List.{prefix_len}
 use Rattle.enc_front.specs.declared.index_file.Class.{Class}
 use Rattle.enc_front.specs.declared.index_file.Class.TheVariants.{Space, Digit, HexDigit}
@@ -20,7 +23,8 @@ lines_of (b ∷ rest) = if b == 10 then [] ∷ lines_of rest else with_first b (
 
 -- without one CR at the end
 abbrev pub without_cr : List ℕ → List ℕ
-without_cr line = if slice_index line (length line - 1) == 13 then take (length line - 1) line else line
+without_cr line = if slice_index line (length line - 1) == 13 then take (length line - 1) line
+    else line
 
 abbrev pub is_digit : ℕ → Bool
 is_digit b = nat_le 48 b && nat_le b 57
@@ -29,18 +33,18 @@ abbrev pub is_hex_digit : ℕ → Bool
 is_hex_digit b = is_digit b || ((nat_le 65 b && nat_le b 70) || (nat_le 97 b && nat_le b 102))
 
 -- the bytes of a part of a line
-abbrev pub is_in : Class → ℕ → Bool
-is_in Space b = b == 32
-is_in Digit b = is_digit b
-is_in HexDigit b = is_hex_digit b
+abbrev pub is_of_class : Class → ℕ → Bool
+is_of_class Space b = b == 32
+is_of_class Digit b = is_digit b
+is_of_class HexDigit b = is_hex_digit b
 
 -- the number of a digit, of either case
 abbrev pub digit_number : ℕ → ℕ
 digit_number b = if nat_le b 57 then b - 48 else (if nat_le b 70 then b - 55 else b - 87)
 
 -- the number that digits write
-abbrev pub number_of : ℕ → List ℕ → ℕ
-number_of base digits = fold (λ n b. base * n + digit_number b) 0 digits
+abbrev pub digits_number : ℕ → List ℕ → ℕ
+digits_number base digits = fold (λ n b. base * n + digit_number b) 0 digits
 
 -- a line ends here, or a tab and anything follows
 abbrev pub is_line_end : List ℕ → Bool
@@ -54,17 +58,19 @@ begins_scalar _ = false
 
 -- one to nine digits of a place, and four to six of a scalar
 abbrev pub are_lengths : ℕ → ℕ → Bool
-are_lengths place scalar = (nat_le 1 place && nat_le place 9) && (nat_le 4 scalar && nat_le scalar 6)
+are_lengths place scalar = (nat_le 1 place && nat_le place 9)
+    && (nat_le 4 scalar && nat_le scalar 6)
 
 -- a place of one to nine digits, a scalar of four to six hexadecimal digits, and the end
 unfoldable pub pair_of_parts : List ℕ → List ℕ → List ℕ → Line
 pair_of_parts place scalar rest =
     if are_lengths (length place) (length scalar) && is_line_end rest
-    then Pair (number_of 10 place) (number_of 16 scalar) else Bad
+    then Pair (digits_number 10 place) (digits_number 16 scalar) else Bad
 
 -- what stands behind `0x`: the scalar's digits, and the rest
 unfoldable pub pair_with : List ℕ → List ℕ → Line
-pair_with place text = pair_of_parts place (take (prefix_len (is_in HexDigit) text) text) (drop (prefix_len (is_in HexDigit) text) text)
+pair_with place text = pair_of_parts place (take (prefix_len (is_of_class HexDigit) text) text)
+    (drop (prefix_len (is_of_class HexDigit) text) text)
 
 -- what stands behind the place's digits: a tab, `0x` and the scalar
 unfoldable pub pair_behind : List ℕ → List ℕ → Line
@@ -72,16 +78,18 @@ pair_behind place text = if begins_scalar text then pair_with place (drop 3 text
 
 -- what stands behind the spaces: the place's digits, and the rest
 unfoldable pub pair_in : List ℕ → Line
-pair_in text = pair_behind (take (prefix_len (is_in Digit) text) text) (drop (prefix_len (is_in Digit) text) text)
+pair_in text = pair_behind (take (prefix_len (is_of_class Digit) text) text)
+    (drop (prefix_len (is_of_class Digit) text) text)
 
 -- an empty line, and one that begins with `#`
-abbrev pub is_skipped : List ℕ → Bool
-is_skipped [] = true
-is_skipped (b ∷ rest) = b == 35
+abbrev pub skips_line : List ℕ → Bool
+skips_line [] = true
+skips_line (b ∷ rest) = b == 35
 
 -- what a line has: nothing where it is skipped, else a pair behind spaces
 unfoldable pub line_of : List ℕ → Line
-line_of line = if is_skipped line then Skipped else pair_in (drop (prefix_len (is_in Space) line) line)
+line_of line = if skips_line line then Skipped
+    else pair_in (drop (prefix_len (is_of_class Space) line) line)
 
 -- pairs in front of the others
 abbrev pub before_pairs : List (ℕ × ℕ) → Result (List (ℕ × ℕ)) ℕ → Result (List (ℕ × ℕ)) ℕ
@@ -97,7 +105,8 @@ with_line number Bad rest = Err number
 -- the pairs of lines, of which the first has this number, or the number of the first bad line
 abbrev pub pairs_of_lines : ℕ → List (List ℕ) → Result (List (ℕ × ℕ)) ℕ
 pairs_of_lines number [] = Ok []
-pairs_of_lines number (line ∷ lines) = with_line number (line_of (without_cr line)) (pairs_of_lines (number + 1) lines)
+pairs_of_lines number (line ∷ lines) = with_line number (line_of (without_cr line))
+    (pairs_of_lines (number + 1) lines)
 
 -- the pairs of an index file, or the number of its first bad line, from 1
 abbrev pub index_pairs : List ℕ → Result (List (ℕ × ℕ)) ℕ

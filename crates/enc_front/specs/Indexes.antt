@@ -1,10 +1,15 @@
 -- Indexes, and which of them an encoding needs (Encoding Standard, section 5).
-use Rattle.std.specs.Prelude.{◌≡◌, ℕ, Bool, true, List, [], ◌∷◌, ◌++◌, if◌then◌else◌, ◌==◌, length, map, find, Option, Some, None, is_some, unwrap_or}
+use Rattle.std.specs.Prelude.{◌≡◌, ℕ, Bool, true, List, [], ◌∷◌, ◌++◌, if◌then◌else◌, ◌==◌, length}
+use Rattle.std.specs.Prelude.{map, find, Option, Some, None, is_some, unwrap_or}
 use Rattle.std.specs.List.{list_all}
 use Rattle.std.specs.Option.{option_map, option_map_or}
 use Rattle.enc_drivers.specs.Lookup.{Places, FindsScalars, HasNoAstral}
 use Rattle.enc_front.specs.declared.encoding.Encoding.{Encoding}
-use Rattle.enc_front.specs.declared.encoding.Encoding.TheVariants.{Utf8, Utf16Be, Utf16Le, Windows1252, UserDefined, Single, Iso8859_8I, Gbk, Gb18030, Big5, EucJp, Iso2022Jp, ShiftJis, EucKr}
+use Rattle.enc_front.specs.declared.encoding.Encoding.TheVariants.{Utf8, Utf16Be, Utf16Le}
+use Rattle.enc_front.specs.declared.encoding.Encoding.TheVariants.{Windows1252, UserDefined, Single}
+use Rattle.enc_front.specs.declared.encoding.Encoding.TheVariants.{Iso8859_8I, Gbk, Gb18030, Big5}
+use Rattle.enc_front.specs.declared.encoding.Encoding.TheVariants.{EucJp, Iso2022Jp, ShiftJis}
+use Rattle.enc_front.specs.declared.encoding.Encoding.TheVariants.{EucKr}
 use Rattle.enc_front.specs.declared.encoding.SingleName.TheVariants.{Iso8859_8}
 use Rattle.enc_front.specs.declared.tables.IndexKind.{IndexKind}
 use Rattle.enc_front.specs.declared.tables.IndexKind.TheVariants as kind
@@ -44,7 +49,8 @@ Indexes = List (IndexKind × Places)
 
 -- the index of a kind
 abbrev pub index_in : Indexes → IndexKind → Option Places
-index_in indexes wanted = option_map (λ index. index.1) (find (λ index. same_kind index.0 wanted) indexes)
+index_in indexes wanted =
+    option_map (λ index. index.1) (find (λ index. same_kind index.0 wanted) indexes)
 
 -- the scalars of the index of a kind: none where there is no such index
 abbrev pub places_in : Indexes → IndexKind → Places
@@ -74,10 +80,12 @@ with_index indexes kind pairs = indexes ++ (kind, places_of kind pairs) ∷ []
 abbrev pub row_error : ℕ × Why → TableError
 row_error fault = BadTable fault.0 fault.1
 
--- why no index of a kind is made of these pairs, apart from want of memory: there is one, or the first faulty row and its first reason
+-- why no index of a kind is made of these pairs, apart from want of memory: there is one, or the
+-- first faulty row and its first reason
 abbrev pub table_fault : Indexes → IndexKind → List (ℕ × ℕ) → Option TableError
 table_fault indexes kind pairs =
-    if has_kind indexes kind then Some (AlreadyThere kind) else option_map row_error (row_fault kind pairs)
+    if has_kind indexes kind then Some (AlreadyThere kind)
+    else option_map row_error (row_fault kind pairs)
 
 -- out of memory, or this fault
 abbrev pub IsMemoryOr : Option TableError → TableError → Type 0

@@ -15,4 +15,5 @@ has_key keys key = list_any (λ k. k == key) keys
 
 -- there is a key for each scalar and each place that holds it, and none else
 abbrev pub FindsPlaces : List ℕ → Places → Type 0
-FindsPlaces keys places = (scalar place : ℕ) → place < 0x100000000 → has_key keys (key_of scalar place) ≡ holds places scalar place
+FindsPlaces keys places = (scalar place : ℕ) → place < 0x100000000
+    → has_key keys (key_of scalar place) ≡ holds places scalar place

@@ -3,9 +3,12 @@ use Rattle.std.specs.Prelude.{ℕ, ◌==◌, Bool, true, false}
 use Rattle.enc_front.specs.declared.encoding.SingleName.{SingleName}
 use Rattle.enc_front.specs.declared.encoding.SingleName.TheVariants as name
 use Rattle.enc_front.specs.declared.tables.IndexKind.{IndexKind}
-use Rattle.enc_front.specs.declared.tables.IndexKind.TheVariants.{Big5, EucKr, Jis0208, Jis0212, Gb18030, Gb18030Ranges, Single}
+use Rattle.enc_front.specs.declared.tables.IndexKind.TheVariants.{Big5, EucKr, Jis0208, Jis0212}
+use Rattle.enc_front.specs.declared.tables.IndexKind.TheVariants.{Gb18030, Gb18030Ranges, Single}
 
--- how many places an index has: the pointers of the decoders (Encoding Standard, sections 9 to 13) are below
+-- how many places an index has: each pointer of the decoders (Encoding Standard, sections 9 to 13)
+-- is below, but those of four bytes of gb18030, which have a scalar only below (section 5, "index
+-- gb18030 ranges code point")
 abbrev pub place_count : IndexKind → ℕ
 place_count Big5 = 19782
 place_count EucKr = 23940

@@ -1,5 +1,6 @@
 -- The least place of a scalar in the ranges of gb18030, by the rows in their order.
-use Rattle.std.specs.Prelude.{◌≡◌, ℕ, ◌+◌, ◌-◌, ◌<◌, ◌≤◌, ◌==◌, nat_lt, min, true, false, if◌then◌else◌, List, Option, Some, None}
+use Rattle.std.specs.Prelude.{◌≡◌, ℕ, ◌+◌, ◌-◌, ◌<◌, ◌≤◌, ◌==◌, nat_lt, min, true, false}
+use Rattle.std.specs.Prelude.{if◌then◌else◌, List, Option, Some, None}
 use Rattle.enc_drivers.specs.Lookup.{holds}
 use Rattle.enc_front.specs.Ranges.{is_outside, range_places}
 
@@ -15,15 +16,18 @@ pub record HasPlaceIn (row : ℕ × ℕ) (end scalar place : ℕ) : Type 0 where
 abbrev pub IsPlaceIn : ℕ × ℕ → ℕ → ℕ → Option ℕ → Type 0
 IsPlaceIn row end scalar (Some place) = HasPlaceIn row end scalar place
 IsPlaceIn row end scalar None =
-    (place : ℕ) → row.0 ≤ place → place < end → is_outside place ≡ false → (place == 7457) ≡ false → row.1 + (place - row.0) ≡ scalar → ⊥
+    (place : ℕ) → row.0 ≤ place → place < end → is_outside place ≡ false → (place == 7457) ≡ false
+    → row.1 + (place - row.0) ≡ scalar → ⊥
 
 -- no place before `end` but 7457 has the scalar
 abbrev pub NoneBefore : List (ℕ × ℕ) → ℕ → ℕ → Type 0
-NoneBefore rows scalar end = (place : ℕ) → place < end → (place == 7457) ≡ false → holds (range_places rows) scalar place ≡ false
+NoneBefore rows scalar end = (place : ℕ) → place < end → (place == 7457) ≡ false
+    → holds (range_places rows) scalar place ≡ false
 
 -- the least place but 7457 that has the scalar, or that there is none
 abbrev pub IsLeastByRows : List (ℕ × ℕ) → ℕ → Option ℕ → Type 0
-IsLeastByRows rows scalar (Some place) = (holds (range_places rows) scalar place ≡ true) × NoneBefore rows scalar place
+IsLeastByRows rows scalar (Some place) = (holds (range_places rows) scalar place ≡ true)
+    × NoneBefore rows scalar place
 IsLeastByRows rows scalar None = NoneBefore rows scalar 1237576
 
 -- with place 7457, which has U+E7C7 whatever the rows

@@ -4,6 +4,8 @@ pub mod Decoder
 pub mod DecoderCalls
 pub mod DecoderSteps
 pub mod DecoderView
+pub mod Encoder
+pub mod EncoderView
 pub mod Encoding
 pub mod Index
 pub mod IndexFile
@@ -14,10 +16,13 @@ pub mod LabelOrder
 pub mod LeastRow
 pub mod Lemmas
 pub mod Marks
+pub mod Needs
+pub mod Output
 pub mod Ranges
 pub mod Scalars
 pub mod Start
 pub mod Tables
+pub mod TypeLaws
 pub mod Units
 pub mod Variant
 pub mod Whole

@@ -1,5 +1,6 @@
 -- Byte order marks (Encoding Standard, section 6: "BOM sniff" and "decode").
-use Rattle.std.specs.Prelude.{ℕ, nat_eq, if◌then◌else◌, List, [], ◌∷◌, length, drop, Option, Some, None}
+use Rattle.std.specs.Prelude.{ℕ, nat_eq, if◌then◌else◌, List, [], ◌∷◌, length, drop, Option, Some}
+use Rattle.std.specs.Prelude.{None}
 use Rattle.std.specs.List.{starts_with}
 use Rattle.std.specs.Option.{option_map_or}
 use Rattle.enc_front.specs.declared.encoding.Encoding.{Encoding}
@@ -26,4 +27,5 @@ without_mark bytes = option_map_or (λ m. drop m.1 bytes) (mark bytes) bytes
 
 -- the bytes without their mark, where it is this encoding's
 abbrev pub own : Encoding → List ℕ → List ℕ
-own encoding bytes = if starts_with nat_eq bytes (mark_of encoding) then drop (length (mark_of encoding)) bytes else bytes
+own encoding bytes = if starts_with nat_eq bytes (mark_of encoding)
+    then drop (length (mark_of encoding)) bytes else bytes

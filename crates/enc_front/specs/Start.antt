@@ -38,12 +38,16 @@ bytes_at Own = []
 bytes_at (Seen part) = part_bytes part
 bytes_at Over = []
 
--- what the next byte makes of the bytes that were read, whatever follows: a part of a mark, a whole mark, or neither
+-- what the next byte makes of the bytes that were read, whatever follows: a part of a mark, a whole
+-- mark, or neither
 abbrev pub LooksAt : Start → Encoding → ℕ → Look → Type 0
 LooksAt start encoding byte (Part part) =
-    ((more : List ℕ) → past_mark (marks_at start) encoding (bytes_at start ++ byte ∷ more) ≡ past_mark any_mark encoding (part_bytes part ++ more))
+    ((more : List ℕ) → past_mark (marks_at start) encoding (bytes_at start ++ byte ∷ more)
+    ≡ past_mark any_mark encoding (part_bytes part ++ more))
     × (part_bytes part ≡ bytes_at start ++ byte ∷ [])
 LooksAt start encoding byte (Mark found) =
-    ((more : List ℕ) → past_mark (marks_at start) encoding (bytes_at start ++ byte ∷ more) ≡ (found, more)) × IsTrue (is_built_in found)
+    ((more : List ℕ) → past_mark (marks_at start) encoding (bytes_at start ++ byte ∷ more)
+    ≡ (found, more)) × IsTrue (is_built_in found)
 LooksAt start encoding byte Other =
-    (more : List ℕ) → past_mark (marks_at start) encoding (bytes_at start ++ byte ∷ more) ≡ (encoding, bytes_at start ++ byte ∷ more)
+    (more : List ℕ) → past_mark (marks_at start) encoding (bytes_at start ++ byte ∷ more)
+    ≡ (encoding, bytes_at start ++ byte ∷ more)

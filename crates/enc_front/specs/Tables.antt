@@ -1,5 +1,8 @@
--- Which pairs of a place and a scalar make an index, and which scalars the index has (Encoding Standard, section 5).
-use Rattle.std.specs.Prelude.{◌≡◌, ℕ, ◌+◌, ◌-◌, ◌<◌, ◌≤◌, ◌==◌, nat_le, nat_lt, Bool, false, not, ◌&&◌, if◌then◌else◌, List, [], ◌∷◌, ◌++◌, length, find, Option, Some, None, IsTrue}
+-- Which pairs of a place and a scalar make an index, and which scalars the index has (Encoding
+-- Standard, section 5).
+use Rattle.std.specs.Prelude.{◌≡◌, ℕ, ◌+◌, ◌-◌, ◌<◌, ◌≤◌, ◌==◌, nat_le, nat_lt, Bool, false, not}
+use Rattle.std.specs.Prelude.{◌&&◌, if◌then◌else◌, List, [], ◌∷◌, ◌++◌, length, find, Option, Some}
+use Rattle.std.specs.Prelude.{None, IsTrue}
 use Rattle.std.specs.List.{list_any, range_with_len}
 use Rattle.std.specs.Option.{option_map, option_map_or, option_or}
 use Rattle.enc_drivers.specs.Lookup.{Places}
@@ -32,14 +35,16 @@ last_place (row ∷ rows) = option_or (last_place rows) (Some row.0)
 abbrev pub follows : Option ℕ → ℕ → Bool
 follows last place = option_map_or (λ before. nat_lt before place) last (place == 0)
 
--- the place at which a row's run has ended: the next row's, as it states it, or the end of the ranges
+-- the place at which a row's run has ended: the next row's, as it states it, or the end of the
+-- ranges
 abbrev pub run_end : List (ℕ × ℕ) → ℕ
 run_end [] = 1237576
 run_end (next ∷ rows) = next.0
 
 -- by the range lookup in this row, the place has a number that is no scalar
 abbrev pub gets_no_scalar : ℕ × ℕ → ℕ → Bool
-gets_no_scalar row place = option_map_or (λ c. not (is_scalar c)) (range_places (row ∷ []) place) false
+gets_no_scalar row place = option_map_or (λ c. not (is_scalar c))
+    (range_places (row ∷ []) place) false
 
 -- a place of the row's run, which ends before `end`, gets no scalar
 unfoldable pub run_fails : ℕ × ℕ → ℕ → Bool
@@ -73,22 +78,26 @@ flat_why kind taken row = first_why (
 -- why a row can't stand between the rows before and after it: the first of its reasons
 abbrev pub row_why : IndexKind → List (ℕ × ℕ) → ℕ × ℕ → List (ℕ × ℕ) → Option Why
 row_why kind before row after =
-    if is_ranges kind then range_why (follows (last_place before) row.0) (run_fails row (run_end after)) row
+    if is_ranges kind then range_why (follows (last_place before) row.0)
+    (run_fails row (run_end after)) row
     else flat_why kind (has_place before row.0) row
 
 -- the first faulty row of those behind `before`, counted from 0, and its first reason
 abbrev pub fault_behind : IndexKind → List (ℕ × ℕ) → List (ℕ × ℕ) → Option (ℕ × Why)
 fault_behind kind before [] = None
 fault_behind kind before (row ∷ after) =
-    option_map_or (λ reason. Some (length before, reason)) (row_why kind before row after) (fault_behind kind (before ++ row ∷ []) after)
+    option_map_or (λ reason. Some (length before, reason)) (row_why kind before row after)
+    (fault_behind kind (before ++ row ∷ []) after)
 
 -- the first faulty row of all, and its first reason
 abbrev pub row_fault : IndexKind → List (ℕ × ℕ) → Option (ℕ × Why)
 row_fault kind pairs = fault_behind kind [] pairs
 
--- the places from `low` to before `high` that aren't below a row's get scalars by its number alone, or one doesn't
+-- the places from `low` to before `high` that aren't below a row's get scalars by its number alone,
+-- or one doesn't
 abbrev pub NumbersAreScalars : ℕ × ℕ → ℕ → ℕ → Type 0
-NumbersAreScalars row low high = (place : ℕ) → row.0 ≤ place → low ≤ place → place < high → IsTrue (is_scalar (row.1 + (place - row.0)))
+NumbersAreScalars row low high = (place : ℕ) → row.0 ≤ place → low ≤ place → place < high
+    → IsTrue (is_scalar (row.1 + (place - row.0)))
 
 pub record SomeNumberFails (row : ℕ × ℕ) (low high : ℕ) : Type 0 where
   pub place : ℕ

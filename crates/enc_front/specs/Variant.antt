@@ -1,9 +1,14 @@
 -- The units of a driver's code, and what it holds.
-use Rattle.enc_drivers.specs.Driver.{standing, unit_of, two_byte_standing, two_byte_unit, gb18030_standing, gb18030_unit, euc_jp_standing, euc_jp_unit}
+use Rattle.enc_drivers.specs.Driver.{standing, unit_of, two_byte_standing, two_byte_unit}
+use Rattle.enc_drivers.specs.Driver.{gb18030_standing, gb18030_unit, euc_jp_standing, euc_jp_unit}
 use Rattle.enc_drivers.specs.Resume.{Standing}
 use Rattle.enc_drivers.specs.Units.{Code}
 use Rattle.enc_front.specs.declared.variant.VariantDecoder.{VariantDecoder}
-use Rattle.enc_front.specs.declared.variant.VariantDecoder.TheVariants.{Utf8, Utf16Be, Utf16Le, Windows1252, UserDefined, SingleByte, Big5, EucJp, EucKr, Gb18030, Iso2022Jp, ShiftJis}
+use Rattle.enc_front.specs.declared.variant.VariantDecoder.TheVariants.{Utf8, Utf16Be, Utf16Le}
+use Rattle.enc_front.specs.declared.variant.VariantDecoder.TheVariants.{Windows1252, UserDefined}
+use Rattle.enc_front.specs.declared.variant.VariantDecoder.TheVariants.{SingleByte, Big5, EucJp}
+use Rattle.enc_front.specs.declared.variant.VariantDecoder.TheVariants.{EucKr, Gb18030, Iso2022Jp}
+use Rattle.enc_front.specs.declared.variant.VariantDecoder.TheVariants.{ShiftJis}
 
 abbrev pub unit_in : VariantDecoder → Code
 unit_in (Utf8 driver) = unit_of driver

@@ -1,12 +1,18 @@
 //! The life cycle of a decoder: from the mark at the front of a stream to its end.
-ghost use Rattle.std.specs.Prelude.{◌≡◌, ℕ, ◌+◌, ◌-◌, ◌*◌, ◌^◌, ◌<◌, ◌≤◌, ◌⊎◌, List, [], ◌∷◌, ◌++◌, length, take, drop, None, IfSome, true, false, ◌&&◌, IsTrue};
+ghost use Rattle.std.specs.Prelude.{◌≡◌, ℕ, ◌+◌, ◌-◌, ◌*◌, ◌^◌, ◌<◌, ◌≤◌, ◌⊎◌, List, [], ◌∷◌, ◌++◌};
+ghost use Rattle.std.specs.Prelude.{length, take, drop, None, IfSome, true, false, ◌&&◌, IsTrue};
 ghost use Rattle.enc_drivers.specs.Resume.{malformed_of, unit_bytes};
 ghost use Rattle.enc_drivers.specs.Units.{AreBytes};
-ghost use Rattle.enc_front.specs.Decoder.{any_mark, own_mark, no_mark, encoding_to_come, owed, to_come};
-ghost use Rattle.enc_front.specs.DecoderCalls.{Decodes, DecodesReplacing, DecoderResumes, DecoderResumesWriting, DecoderMayHold, DecoderNeedsLast, HoldsOpen, Replaces, is_input_empty, owed_count, room_for};
+ghost use Rattle.enc_front.specs.Decoder.{any_mark, own_mark, no_mark, encoding_to_come, owed_in};
+ghost use Rattle.enc_front.specs.Decoder.{to_come};
+ghost use Rattle.enc_front.specs.DecoderCalls.{Decodes, DecodesReplacing, DecoderResumes};
+ghost use Rattle.enc_front.specs.DecoderCalls.{DecoderResumesWriting, DecoderMayHold};
+ghost use Rattle.enc_front.specs.DecoderCalls.{DecoderNeedsLast, HoldsOpen, Replaces};
+ghost use Rattle.enc_front.specs.DecoderCalls.{is_input_empty, owed_count, room_for};
 ghost use Rattle.enc_front.specs.declared.mark.Start.TheVariants.{Over};
 ghost use Rattle.enc_front.specs.DecoderSteps.{SameEnd, at_start, tells_malformed, with_more};
 ghost use Rattle.enc_front.specs.Indexes.{indexes_of, known, is_built_in};
+ghost use Rattle.enc_front.specs.Output.{utf_8, utf_16, room_in, replacement_in};
 ghost use Rattle.enc_front.specs.Units.{unit};
 ghost use Rattle.enc_front.specs.Variant.{unit_in, standing_in};
 
@@ -15,6 +21,7 @@ pub(crate) mod tests;
 
 use crate::encoding::Encoding;
 use crate::mark::{Look, Start};
+use crate::output::Element;
 use crate::tables::Tables;
 use crate::variant::VariantDecoder;
 use enc_handles::results::{CoderResult, DecoderResult};
@@ -112,9 +119,9 @@ impl<'t> Decoder<'t> {
     }
 
     /// Room for the text of `byte_length` bytes, in bytes, that is always enough for
-    /// [`Decoder::decode_to_utf8`]: three for each byte and for each of three that may be held, three
-    /// where U+FFFD is owed, and four that are free at the end. None exactly where that is more than
-    /// `usize::MAX`.
+    /// [`Decoder::decode_to_utf8`]: three for each byte and for each of three that may be held,
+    /// three where U+FFFD is owed, and four that are free at the end. None exactly where that is
+    /// more than `usize::MAX`.
     pub fn max_utf8_buffer_length(&self, byte_length: usize) -> Option<usize>
         ensures room { IfSome result (λ room. room ≡ room_for (standing_of self.now) byte_length) }
         ensures none { result ≡ None → 2 ^ 64 ≤ room_for (standing_of self.now) byte_length }
@@ -130,12 +137,12 @@ impl<'t> Decoder<'t> {
     /// Decodes to UTF-8: reads bytes of `src`, writes bytes to the front of `dst`, and answers how
     /// many. `last` says that `src` ends the stream; with it `InputEmpty` finishes the decoder.
     ///
-    /// `InputEmpty`: all of `src` was read, and at most three bytes are held, a part of a mark or of
-    /// a unit that depends on what follows; with `last` none. `OutputFull`: fewer than four bytes
-    /// are free, and there is more to decode. `Malformed(n, k)`: a malformed unit of `n` bytes was
-    /// met, and `k` bytes behind it are held; the next call goes on with these. No byte is read that
-    /// wasn't needed: without the last one that was read, what stands there was undecided. Bytes of
-    /// `dst` behind the text are free to change.
+    /// `InputEmpty`: all of `src` was read, and at most three bytes are held, a part of a mark or
+    /// of a unit that depends on what follows; with `last` none. `OutputFull`: fewer than four
+    /// bytes are free, and there is more to decode. `Malformed(n, k)`: a malformed unit of `n`
+    /// bytes was met, and `k` bytes behind it are held; the next call goes on with these. No byte
+    /// is read that wasn't needed: without the last one that was read, what stands there was
+    /// undecided. Bytes of `dst` behind the text are free to change.
     ///
     /// The decoder mustn't be finished, and mustn't owe U+FFFD.
     pub fn decode_to_utf8_without_replacement(
@@ -146,8 +153,83 @@ impl<'t> Decoder<'t> {
     ) -> (DecoderResult, usize, usize)
         requires unfinished { (standing_of self.old).finished ≡ false }
         requires nothing_owed { (standing_of self.old).owes ≡ false }
-        ensures { Decodes last (standing_of self.old) (standing_of self.new) src.now dst.old dst.new
-            result.0 result.1 result.2 }
+        ensures { Decodes utf_8 last (standing_of self.old) (standing_of self.new) src.now
+            dst.old dst.new result.0 result.1 result.2 }
+    {
+        self.decode_to_malformed(src, dst, last)
+    }
+
+    /// Decodes to UTF-16: reads bytes of `src`, writes code units to the front of `dst`, and
+    /// answers how many. As [`Decoder::decode_to_utf8_without_replacement`], but that `OutputFull`
+    /// comes only where fewer than two units are free.
+    ///
+    /// The decoder mustn't be finished, and mustn't owe U+FFFD.
+    pub fn decode_to_utf16_without_replacement(
+        &mut self,
+        src: &[u8],
+        dst: &mut [u16],
+        last: bool,
+    ) -> (DecoderResult, usize, usize)
+        requires unfinished { (standing_of self.old).finished ≡ false }
+        requires nothing_owed { (standing_of self.old).owes ≡ false }
+        ensures { Decodes utf_16 last (standing_of self.old) (standing_of self.new) src.now
+            dst.old dst.new result.0 result.1 result.2 }
+    {
+        self.decode_to_malformed(src, dst, last)
+    }
+
+    /// Decodes to UTF-8 as [`Decoder::decode_to_utf8_without_replacement`], but writes U+FFFD for
+    /// each malformed unit. Answers besides whether U+FFFD was written in this call.
+    ///
+    /// `InputEmpty`: all of `src` was read, nothing is owed, and at most three bytes are held; with
+    /// `last` none. `OutputFull`: fewer than four bytes are free, and there is more to decode or to
+    /// write. Where U+FFFD has no room, which is three bytes, it is owed, and the next call writes
+    /// it first. A call with at least four bytes of room writes a byte or reads all of `src`, and
+    /// one with the room of [`Decoder::max_utf8_buffer_length`] never answers `OutputFull`.
+    ///
+    /// The decoder mustn't be finished.
+    pub fn decode_to_utf8(
+        &mut self,
+        src: &[u8],
+        dst: &mut [u8],
+        last: bool,
+    ) -> (CoderResult, usize, usize, bool)
+        requires { (standing_of self.old).finished ≡ false }
+        ensures { DecodesReplacing utf_8 last (standing_of self.old) (standing_of self.new) src.now
+            dst.old dst.new result.0 result.1 result.2 result.3 }
+    {
+        self.decode_replacing(src, dst, last)
+    }
+
+    /// Decodes to UTF-16 as [`Decoder::decode_to_utf8`] does to UTF-8. `OutputFull` comes only
+    /// where fewer than two units are free; U+FFFD has one. A decoder may go on in the other form:
+    /// what it owes is written in the form of the next call.
+    ///
+    /// The decoder mustn't be finished.
+    pub fn decode_to_utf16(
+        &mut self,
+        src: &[u8],
+        dst: &mut [u16],
+        last: bool,
+    ) -> (CoderResult, usize, usize, bool)
+        requires { (standing_of self.old).finished ≡ false }
+        ensures { DecodesReplacing utf_16 last (standing_of self.old) (standing_of self.new) src.now
+            dst.old dst.new result.0 result.1 result.2 result.3 }
+    {
+        self.decode_replacing(src, dst, last)
+    }
+
+    // Decodes up to a malformed unit.
+    fn decode_to_malformed<E: Element>(
+        &mut self,
+        src: &[u8],
+        dst: &mut [E],
+        last: bool,
+    ) -> (DecoderResult, usize, usize)
+        requires unfinished { (standing_of self.old).finished ≡ false }
+        requires nothing_owed { (standing_of self.old).owes ≡ false }
+        ensures { Decodes E.output last (standing_of self.old) (standing_of self.new) src.now
+            (E.values dst.old) (E.values dst.new) result.0 result.1 result.2 }
     {
         let read = self.look_for_mark(src, last);
         let Start::Over = self.start else {
@@ -158,25 +240,16 @@ impl<'t> Decoder<'t> {
         (result, read + more, written)
     }
 
-    /// Decodes to UTF-8 as [`Decoder::decode_to_utf8_without_replacement`], but writes U+FFFD for
-    /// each malformed unit. Answers besides whether U+FFFD was written in this call.
-    ///
-    /// `InputEmpty`: all of `src` was read, nothing is owed, and at most three bytes are held; with
-    /// `last` none. `OutputFull`: fewer than four bytes are free, and there is more to decode or to
-    /// write. Where U+FFFD has no room, which is three bytes, it is owed, and the next call writes
-    /// it first. A call with at least four bytes of room writes a byte or reads all of `src`, and one
-    /// with the room of [`Decoder::max_utf8_buffer_length`] never answers `OutputFull`.
-    ///
-    /// The decoder mustn't be finished.
-    pub fn decode_to_utf8(
+    // Decodes, and writes U+FFFD for each malformed unit.
+    fn decode_replacing<E: Element>(
         &mut self,
         src: &[u8],
-        dst: &mut [u8],
+        dst: &mut [E],
         last: bool,
     ) -> (CoderResult, usize, usize, bool)
         requires { (standing_of self.old).finished ≡ false }
-        ensures { DecodesReplacing last (standing_of self.old) (standing_of self.new) src.now
-            dst.old dst.new result.0 result.1 result.2 result.3 }
+        ensures { DecodesReplacing E.output last (standing_of self.old) (standing_of self.new)
+            src.now (E.values dst.old) (E.values dst.new) result.0 result.1 result.2 result.3 }
     {
         let mut read = 0;
         let mut written = 0;
@@ -200,27 +273,29 @@ impl<'t> Decoder<'t> {
 
     // Writes U+FFFD where it is owed, and decodes to the next malformed unit, for which it is then
     // owed. Answers besides whether U+FFFD was written.
-    fn turn(
+    fn turn<E: Element>(
         &mut self,
         src: &[u8],
-        dst: &mut [u8],
+        dst: &mut [E],
         last: bool,
     ) -> (DecoderResult, usize, usize, bool)
         requires { (standing_of self.old).finished ≡ false }
-        ensures replaces { Replaces last (standing_of self.old) (standing_of self.new) src.now result.1
-            (take result.2 dst.new) result.3 }
+        ensures replaces { Replaces E.output last (standing_of self.old) (standing_of self.new)
+            src.now result.1 (take result.2 (E.values dst.new)) result.3 }
         ensures read { result.1 ≤ length src.now }
         ensures written { result.2 ≤ length dst.new }
         ensures len { length dst.new ≡ length dst.old }
-        ensures short { result.2 + 3 * (length (place_of self.new).held + owed_count (standing_of self.new))
+        ensures short { result.2
+            + 3 * (length (place_of self.new).held + owed_count (standing_of self.new))
             ≤ 3 * (length (place_of self.old).held + result.1 + owed_count (standing_of self.old)) }
         ensures input_empty { result.0 ≡ DecoderResult.InputEmpty → (result.1 ≡ length src.now)
             × ((standing_of self.new).owes ≡ false) × DecoderMayHold last (place_of self.new) }
-        ensures output_full { result.0 ≡ DecoderResult.OutputFull → length dst.new - result.2 < 4 }
+        ensures output_full { result.0 ≡ DecoderResult.OutputFull →
+            length dst.new - result.2 < room_in E.output }
         ensures pending { result.0 ≡ DecoderResult.OutputFull → 0 < length (place_of self.new).held
             + (length src.now - result.1) + owed_count (standing_of self.new) }
         ensures no_room { result.0 ≡ DecoderResult.OutputFull → (standing_of self.new).owes ≡ true →
-            length dst.new - result.2 < 3 }
+            length dst.new - result.2 < length (replacement_in E.output) }
         ensures used { (n k : ℕ) → result.0 ≡ DecoderResult.Malformed n k →
             length (place_of self.new).held < length (place_of self.old).held + result.1 }
         ensures end { (standing_of self.new).finished ≡ (last && is_input_empty result.0) }
@@ -229,37 +304,29 @@ impl<'t> Decoder<'t> {
         let Some(first) = self.write_owed(dst) else {
             return (DecoderResult::OutputFull, 0, 0, false);
         };
-        let (result, read, more) = self.decode_to_utf8_without_replacement(
-            src,
-            &mut dst[first..],
-            last,
-        );
+        let (result, read, more) = self.decode_to_malformed(src, &mut dst[first..], last);
         self.owes = tells_malformed(result);
         (result, read, first + more, owed)
     }
 
     // Writes U+FFFD where it is owed; none where there is no room for it.
-    fn write_owed(&mut self, dst: &mut [u8]) -> Option<usize>
-        ensures full { result ≡ None → (length dst.new < 3) × ((standing_of self.old).owes ≡ true)
-            × (standing_of self.new ≡ standing_of self.old) }
+    fn write_owed<E: Element>(&mut self, dst: &mut [E]) -> Option<usize>
+        ensures full { result ≡ None → (length dst.new < length (replacement_in E.output))
+            × ((standing_of self.old).owes ≡ true) × (standing_of self.new ≡ standing_of self.old) }
         ensures standing { IfSome result (λ _.
             standing_of self.new ≡ record (standing_of self.old) { owes = false }) }
         ensures within { IfSome result (λ n. n ≤ length dst.new) }
         ensures len { length dst.new ≡ length dst.old }
-        ensures count { IfSome result (λ n. n ≡ 3 * owed_count (standing_of self.old)) }
-        ensures text { IfSome result (λ n. take n dst.new ≡ owed (standing_of self.old)) }
+        ensures count { IfSome result (λ n. n ≤ 3 * owed_count (standing_of self.old)) }
+        ensures text { IfSome result (λ n.
+            take n (E.values dst.new) ≡ owed_in E.output (standing_of self.old)) }
     {
         if !self.owes {
             return Some(0);
         }
-        if dst.len() < 3 {
-            return None;
-        }
-        dst[0] = 0xEF;
-        dst[1] = 0xBF;
-        dst[2] = 0xBD;
+        let count = E::put_replacement(dst)?;
         self.owes = false;
-        Some(3)
+        Some(count)
     }
 
     // Goes on behind a mark, in its encoding.
@@ -294,7 +361,8 @@ impl<'t> Decoder<'t> {
             to_come (place_of self.old) (byte ∷ more) ≡ to_come (place_of self.new) more }
         ensures open_before { result ≡ true → HoldsOpen (place_of self.old) }
         ensures taken_encoding { result ≡ true → (more : List ℕ) →
-            encoding_to_come (place_of self.old) (byte ∷ more) ≡ encoding_to_come (place_of self.new) more }
+            encoding_to_come (place_of self.old) (byte ∷ more)
+            ≡ encoding_to_come (place_of self.new) more }
         ensures held { result ≡ true →
             length (place_of self.new).held ≤ length (place_of self.old).held + 1 }
         ensures refused { result ≡ false → (place_of self.new).marks ≡ no_mark }
@@ -329,13 +397,15 @@ impl<'t> Decoder<'t> {
     // Reads bytes while they go on with a mark, and ends the start where they don't, or nothing
     // follows.
     fn look_for_mark(&mut self, src: &[u8], last: bool) -> usize
-        ensures resumes { DecoderResumes last (place_of self.old) (place_of self.new) src.now result [] [] }
+        ensures resumes { DecoderResumes last (place_of self.old) (place_of self.new)
+            src.now result [] [] }
         ensures read { result ≤ length src.now }
         ensures held { length (place_of self.new).held ≤ length (place_of self.old).held + result }
         ensures refused { result < length src.now → (place_of self.new).marks ≡ no_mark }
         ensures ended { last ≡ true → (place_of self.new).marks ≡ no_mark }
         ensures read_ahead { 0 < result → 0 < length (place_of self.new).held →
-            DecoderNeedsLast last (place_of self.old) src.now result (length (place_of self.new).held) }
+            DecoderNeedsLast last (place_of self.old) src.now result
+            (length (place_of self.new).held) }
         ensures same_end { SameEnd (standing_of self.old) (standing_of self.new) }
     {
         let mut read = 0;
@@ -352,14 +422,21 @@ impl<'t> Decoder<'t> {
     }
 
     // Decodes behind the start.
-    fn convert(&mut self, src: &[u8], dst: &mut [u8], last: bool) -> (DecoderResult, usize, usize)
+    fn convert<E: Element>(
+        &mut self,
+        src: &[u8],
+        dst: &mut [E],
+        last: bool,
+    ) -> (DecoderResult, usize, usize)
         requires { self.old.start ≡ Start.Over }
-        ensures resumes { DecoderResumesWriting last (place_of self.old) (place_of self.new)
-            src.now result.1 (take result.2 dst.new) (malformed_of result.0) }
+        ensures resumes { DecoderResumesWriting E.output last (place_of self.old)
+            (place_of self.new) src.now result.1 (take result.2 (E.values dst.new))
+            (malformed_of result.0) }
         ensures read { result.1 ≤ length src.now }
         ensures written { result.2 ≤ length dst.new }
         ensures len { length dst.new ≡ length dst.old }
-        ensures short { result.2 + 3 * (length (malformed_of result.0) + length (place_of self.new).held)
+        ensures short { result.2
+            + 3 * (length (malformed_of result.0) + length (place_of self.new).held)
             ≤ 3 * (length (place_of self.old).held + result.1) }
         ensures behind { unit_bytes (malformed_of result.0) + length (place_of self.new).held
             ≤ length (place_of self.old).held + result.1 }
@@ -368,7 +445,8 @@ impl<'t> Decoder<'t> {
             (unit_bytes (malformed_of result.0) + length (place_of self.new).held) }
         ensures input_empty { result.0 ≡ DecoderResult.InputEmpty →
             (result.1 ≡ length src.now) × DecoderMayHold last (place_of self.new) }
-        ensures output_full { result.0 ≡ DecoderResult.OutputFull → length dst.new - result.2 < 4 }
+        ensures output_full { result.0 ≡ DecoderResult.OutputFull →
+            length dst.new - result.2 < room_in E.output }
         ensures pending { result.0 ≡ DecoderResult.OutputFull →
             0 < length (place_of self.new).held + (length src.now - result.1) }
         ensures malformed { (n k : ℕ) → result.0 ≡ DecoderResult.Malformed n k →
@@ -379,26 +457,27 @@ impl<'t> Decoder<'t> {
         let DecoderResult::InputEmpty = result else {
             return (result, 0, first);
         };
-        let (result, read, more) = self
-            .variant
-            .decode_to_utf8_raw(src, &mut dst[first..], last);
+        let (result, read, more) = E::decode_raw(&mut self.variant, src, &mut dst[first..], last);
         (result, read, first + more)
     }
 
     // Decodes what has to be read first.
-    fn give_replay(&mut self, dst: &mut [u8]) -> (DecoderResult, usize)
+    fn give_replay<E: Element>(&mut self, dst: &mut [E]) -> (DecoderResult, usize)
         requires { self.old.start ≡ Start.Over }
-        ensures resumes { DecoderResumesWriting false (place_of self.old) (place_of self.new)
-            [] 0 (take result.1 dst.new) (malformed_of result.0) }
+        ensures resumes { DecoderResumesWriting E.output false (place_of self.old)
+            (place_of self.new) [] 0 (take result.1 (E.values dst.new)) (malformed_of result.0) }
         ensures written { result.1 ≤ length dst.new }
         ensures len { length dst.new ≡ length dst.old }
-        ensures short { result.1 + 3 * (length (malformed_of result.0) + length (place_of self.new).held)
+        ensures short { result.1
+            + 3 * (length (malformed_of result.0) + length (place_of self.new).held)
             ≤ 3 * length (place_of self.old).held }
         ensures behind { unit_bytes (malformed_of result.0) + length (place_of self.new).held
             ≤ length (place_of self.old).held }
         ensures all { result.0 ≡ DecoderResult.InputEmpty → self.new.replay.now ≡ [] }
-        ensures output_full { result.0 ≡ DecoderResult.OutputFull → length dst.new - result.1 < 4 }
-        ensures pending { result.0 ≡ DecoderResult.OutputFull → 0 < length (place_of self.new).held }
+        ensures output_full { result.0 ≡ DecoderResult.OutputFull →
+            length dst.new - result.1 < room_in E.output }
+        ensures pending { result.0 ≡ DecoderResult.OutputFull
+            → 0 < length (place_of self.new).held }
         ensures malformed { (n k : ℕ) → result.0 ≡ DecoderResult.Malformed n k →
             k ≡ length (place_of self.new).held }
         ensures started { self.new.start ≡ Start.Over }
@@ -408,7 +487,7 @@ impl<'t> Decoder<'t> {
             return (DecoderResult::InputEmpty, 0);
         }
         let replay = self.replay;
-        let (result, read, written) = self.variant.decode_to_utf8_raw(replay, dst, false);
+        let (result, read, written) = E::decode_raw(&mut self.variant, replay, dst, false);
         self.replay = &replay[read..];
         (with_more(result, self.replay.len()), written)
     }

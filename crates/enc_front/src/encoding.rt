@@ -4,9 +4,14 @@ ghost use Rattle.std.specs.Prelude.{◌≡◌, ◌≤◌, length, IfSome, IsTrue
 ghost use Rattle.std.specs.Str.{str_eq_ignore_ascii_case};
 ghost use Rattle.std.specs.Ordering.{is_lt};
 ghost use Rattle.enc_front.specs.LabelOrder.{label_order, rows_rise};
-ghost use Rattle.enc_front.specs.Encoding.{name_text, rows_of, find_label, label as encoding_labelled};
+ghost use Rattle.enc_front.specs.Encoding.{name_text, label_rows, find_label};
+ghost use Rattle.enc_front.specs.Encoding.{label as encoding_labelled};
 ghost use Rattle.enc_front.specs.Marks.{mark};
-ghost use Rattle.enc_front.specs.Indexes.{is_built_in};
+ghost use Rattle.enc_front.specs.Indexes.{is_built_in, kinds};
+ghost use Rattle.enc_front.specs.Encoder.{has_encoder};
+ghost use Rattle.enc_front.specs.Needs.{kinds_in};
+
+use crate::tables::IndexKind;
 
 #[cfg(test)]
 mod tests;
@@ -259,16 +264,16 @@ pub(crate) const LABELS: [(&[u8], Encoding); 162] = [
 ];
 
 impl Encoding {
-    /// The encoding with this label, without regard to ASCII white space at its ends (tab, LF, FF, CR,
-    /// space) and to ASCII case; none for an unknown label (Encoding Standard, section 4.2).
+    /// The encoding with this label, without regard to ASCII white space at its ends (tab, LF, FF,
+    /// CR, space) and to ASCII case; none for an unknown label (Encoding Standard, section 4.2).
     pub fn for_label(label: &[u8]) -> Option<Encoding>
         ensures { result ≡ encoding_labelled label.now }
     {
         find_label(&LABELS, label.trim_ascii())
     }
 
-    /// The encoding of the byte order mark at the front of `bytes`, and the mark's length in bytes: EF BB
-    /// BF is UTF-8, FE FF is UTF-16BE, FF FE is UTF-16LE (Encoding Standard, section 6).
+    /// The encoding of the byte order mark at the front of `bytes`, and the mark's length in bytes:
+    /// EF BB BF is UTF-8, FE FF is UTF-16BE, FF FE is UTF-16LE (Encoding Standard, section 6).
     pub fn for_bom(bytes: &[u8]) -> Option<(Encoding, usize)>
         ensures mark { result ≡ mark bytes.now }
         ensures within { IfSome result (λ found. found.1 ≤ length bytes.now) }
@@ -326,27 +331,63 @@ impl Encoding {
         }
     }
 
+    // The kinds of index that the encoding needs.
+    pub(crate) fn kinds(self) -> Kinds
+        ensures { kinds_in result ≡ kinds self }
+    {
+        match self {
+            Encoding::Utf8
+            | Encoding::Utf16Be
+            | Encoding::Utf16Le
+            | Encoding::Windows1252
+            | Encoding::UserDefined => Kinds::None,
+            Encoding::Single(name) => Kinds::One(IndexKind::Single(name)),
+            Encoding::Iso8859_8I => Kinds::One(IndexKind::Single(SingleName::Iso8859_8)),
+            Encoding::Gbk | Encoding::Gb18030 => {
+                Kinds::Two(IndexKind::Gb18030, IndexKind::Gb18030Ranges)
+            }
+            Encoding::Big5 => Kinds::One(IndexKind::Big5),
+            Encoding::EucJp => Kinds::Two(IndexKind::Jis0208, IndexKind::Jis0212),
+            Encoding::Iso2022Jp | Encoding::ShiftJis => Kinds::One(IndexKind::Jis0208),
+            Encoding::EucKr => Kinds::One(IndexKind::EucKr),
+        }
+    }
+
+    // Whether text is encoded in it.
+    pub(crate) fn has_encoder(self) -> bool
+        ensures { result ≡ has_encoder self }
+    {
+        !matches!(
+            self,
+            Encoding::Big5 | Encoding::ShiftJis | Encoding::Iso2022Jp
+        )
+    }
+
     /// The encoding decodes without an index: UTF-8, UTF-16BE, UTF-16LE, windows-1252 and
     /// x-user-defined.
     pub fn is_built_in(self) -> bool
         ensures { result ≡ is_built_in self }
     {
-        matches!(
-            self,
-            Encoding::Utf8
-                | Encoding::Utf16Be
-                | Encoding::Utf16Le
-                | Encoding::Windows1252
-                | Encoding::UserDefined
-        )
+        match self.kinds() {
+            Kinds::None => true,
+            Kinds::One(_) | Kinds::Two(_, _) => false,
+        }
     }
+}
+
+// The kinds of index that an encoding needs.
+#[derive(Clone, Copy, Debug)]
+pub(crate) enum Kinds {
+    None,
+    One(IndexKind),
+    Two(IndexKind, IndexKind),
 }
 
 // The encoding of the first of these labels that the label is, in any ASCII case, by a binary
 // search.
 fn find_label(rows: &[(&[u8], Encoding)], label: &[u8]) -> Option<Encoding>
-    requires { rows_rise (rows_of rows.now) ≡ true }
-    ensures { result ≡ find_label (rows_of rows.now) label.now }
+    requires { rows_rise (label_rows rows.now) ≡ true }
+    ensures { result ≡ find_label (label_rows rows.now) label.now }
 {
     let at = rows.partition_point(|row| is_before(row.0, label));
     let row = rows.get(at)?;

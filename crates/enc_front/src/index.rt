@@ -1,16 +1,19 @@
 //! Indexes (Encoding Standard, section 5): the flat ones, and the ranges of gb18030.
 
-ghost use Rattle.std.specs.Prelude.{◌≡◌, ℕ, ◌+◌, ◌-◌, ◌<◌, ◌≤◌, ◌==◌, nat_lt, true, false, Some, None, if◌then◌else◌, is_some, length, IfOk, IfErr, IfSome, IfNone, IsTrue};
+ghost use Rattle.std.specs.Prelude.{◌≡◌, ℕ, ◌+◌, ◌-◌, ◌<◌, ◌≤◌, ◌==◌, nat_lt, true, false, Some};
+ghost use Rattle.std.specs.Prelude.{None, if◌then◌else◌, is_some, length, IfOk, IfErr, IfSome};
+ghost use Rattle.std.specs.Prelude.{IfNone, IsTrue};
 ghost use Rattle.std.specs.List.Sorted.{IsNonDecreasing, IsNonDecreasingBy};
 ghost use Rattle.enc_drivers.specs.Lookup.{Places, FindsScalars};
-ghost use Rattle.enc_front.specs.Cells.{cell_places};
+ghost use Rattle.enc_front.specs.Cells.{cell_places, cell_entry, cell_entries, byte_entry, HasByteEntries};
 ghost use Rattle.enc_front.specs.Keys.{FindsPlaces, has_key, key_of, pair_keys};
 ghost use Rattle.enc_front.specs.LeastRow.{IsLeastByRows, IsPlaceIn, under, with_7457};
 ghost use Rattle.enc_front.specs.Ranges.{is_outside, range_places};
 ghost use Rattle.enc_front.specs.Scalars.{is_scalar};
 
-use crate::rows::end_behind;
+use crate::rows::{end_behind, is_scalar};
 use enc_drivers::lookup::Lookup;
+use enc_handles::entry::entry_of;
 use std::alloc::{AllocError, Global};
 
 // Stands in a cell without a scalar.
@@ -26,7 +29,8 @@ impl Cells {
     // So many places, without a scalar.
     pub(crate) fn empty(alloc: Global, count: usize) -> Result<Cells, AllocError>
         ensures len { IfOk result (λ cells. length cells.cells.items ≡ count) }
-        ensures none { IfOk result (λ cells. (place : ℕ) → cell_places cells.cells.items place ≡ None) }
+        ensures none { IfOk result (λ cells. (place : ℕ)
+            → cell_places cells.cells.items place ≡ None) }
     {
         let cells = vec![in alloc; NONE; count]?;
         Ok(Cells { cells })
@@ -43,6 +47,37 @@ impl Cells {
         self.cells[place as usize] = scalar;
     }
 
+    // The entry of each byte of an encoding of one byte a scalar, or 0.
+    fn byte_entries(&self) -> [u32; 256]
+        ensures { HasByteEntries self.now.cells.items result }
+    {
+        let mut entries = [0; 256];
+        for byte in 0..256u32 {
+            entries[byte as usize] = self.byte_entry(byte);
+        }
+        entries
+    }
+
+    // The entries of the cells.
+    pub(crate) fn entries(&self, alloc: Global) -> Result<Vec<u32>, AllocError>
+        ensures { IfOk result (λ entries. entries.items ≡ cell_entries self.now.cells.items) }
+    {
+        entries_of(alloc, self.cells.as_slice())
+    }
+
+    // That of one.
+    fn byte_entry(&self, byte: u32) -> u32
+        ensures { result ≡ byte_entry self.now.cells.items byte }
+    {
+        if byte < 0x80 {
+            return entry_of(byte as u16);
+        }
+        match self.cells.get((byte - 0x80) as usize) {
+            Some(cell) => cell_entry(*cell),
+            None => 0,
+        }
+    }
+
     // The scalar at a place, or none.
     pub(crate) fn at(&self, place: u32) -> Option<char>
         ensures { result ≡ cell_places self.now.cells.items place }
@@ -52,24 +87,57 @@ impl Cells {
     }
 }
 
-/// An index with a scalar or none at each of its places, and a key for each scalar and its place,
-/// in the order of the scalars.
+// The entries of cells.
+fn entries_of(alloc: Global, cells: &[u32]) -> Result<Vec<u32>, AllocError>
+    ensures { IfOk result (λ entries. entries.items ≡ cell_entries cells.now) }
+{
+    let mut entries = Vec::with_capacity(alloc, cells.len())?;
+    for cell in cells {
+        entries.push(cell_entry(*cell))?;
+    }
+    Ok(entries)
+}
+
+// The entry of a cell's scalar up to U+FFFF, or 0.
+fn cell_entry(cell: u32) -> u32
+    ensures { result ≡ cell_entry cell }
+{
+    if is_scalar(cell) && cell < 0x1_0000 {
+        entry_of(cell as u16)
+    } else {
+        0
+    }
+}
+
+/// An index with a scalar or none at each of its places and its entry, a key for each scalar and
+/// its place, in the order of the scalars, and the entries of bytes by the first 128 places.
 #[derive(Debug, Drop)]
 pub(crate) struct Index {
     cells: Cells,
+    entries: Vec<u32>,
     keys: Vec<u64>,
+    byte_entries: [u32; 256],
     ghost sorted: { IsNonDecreasing keys.items },
     ghost finds: { FindsPlaces keys.items (cell_places cells.cells.items) },
+    ghost entered: { entries.items ≡ cell_entries cells.cells.items },
+    ghost ready: { HasByteEntries cells.cells.items byte_entries },
 }
 
 impl Index {
-    // The index of these cells and keys.
-    pub(crate) fn of(cells: Cells, keys: Vec<u64>) -> Index
+    // The index of these cells, entries and keys.
+    pub(crate) fn of(cells: Cells, entries: Vec<u32>, keys: Vec<u64>) -> Index
+        requires entered { entries.items ≡ cell_entries cells.cells.items }
         requires sorted { IsNonDecreasing keys.items }
         requires finds { FindsPlaces keys.items (cell_places cells.cells.items) }
         ensures { cell_places result.cells.cells.items ≡ cell_places cells.cells.items }
     {
-        Index { cells, keys }
+        let byte_entries = cells.byte_entries();
+        Index {
+            cells,
+            entries,
+            keys,
+            byte_entries,
+        }
     }
 }
 
@@ -91,13 +159,27 @@ impl Lookup for Index {
         place_below(key - least, below)
     }
 
+    #[inline(always)]
+    fn entry(&self, place: u32) -> u32 {
+        match self.entries.get(place as usize) {
+            Some(entry) => *entry,
+            None => 0,
+        }
+    }
+
+    #[inline(always)]
+    fn byte_entries(&self) -> Option<&[u32; 256]> {
+        Some(&self.byte_entries)
+    }
+
     ghost scalars = { λ index. cells_find_scalars index.cells.cells.items };
 }
 
 /// The keys of pairs of a place and a scalar, in their order.
 pub(crate) fn sorted_keys(alloc: Global, pairs: &[(u32, u32)]) -> Result<Vec<u64>, AllocError>
     ensures sorted { IfOk result (λ keys. IsNonDecreasing keys.items) }
-    ensures keys { IfOk result (λ keys. (key : ℕ) → has_key keys.items key ≡ has_key (pair_keys pairs.now) key) }
+    ensures keys { IfOk result (λ keys. (key : ℕ)
+        → has_key keys.items key ≡ has_key (pair_keys pairs.now) key) }
 {
     let mut keys = keys_of(alloc, pairs)?;
     keys.sort_unstable();

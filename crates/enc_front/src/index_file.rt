@@ -1,8 +1,13 @@
 //! Index files (Encoding Standard, section 5).
 
-ghost use Rattle.std.specs.Prelude.{◌≡◌, ◌+◌, ◌*◌, ◌<◌, ◌≤◌, ◌^◌, ◌∷◌, length, take, drop, IfErr, IfOk, IsTrue, Ok};
+ghost use Rattle.std.specs.Prelude.{◌≡◌, ◌+◌, ◌*◌, ◌<◌, ◌≤◌, ◌^◌, ◌∷◌, length, take, drop, IfErr};
+ghost use Rattle.std.specs.Prelude.{IfOk, IsTrue, Ok};
 ghost use Rattle.std.specs.List.{prefix_len};
-ghost use Rattle.enc_front.specs.IndexFile.{is_in, AreDigits, are_lengths, is_digit, is_hex_digit, digit_number, number_of, begins_scalar, is_line_end, line_of, lines_of, is_skipped, pair_behind, pair_in, pair_of_parts, pair_with, without_cr, index_pairs, IsMemoryOrLine};
+ghost use Rattle.enc_front.specs.IndexFile.{is_of_class, AreDigits, are_lengths, is_digit};
+ghost use Rattle.enc_front.specs.IndexFile.{is_hex_digit, digit_number, digits_number};
+ghost use Rattle.enc_front.specs.IndexFile.{begins_scalar, is_line_end, line_of, lines_of};
+ghost use Rattle.enc_front.specs.IndexFile.{skips_line, pair_behind, pair_in, pair_of_parts};
+ghost use Rattle.enc_front.specs.IndexFile.{pair_with, without_cr, index_pairs, IsMemoryOrLine};
 
 use std::alloc::{AllocError, AllocFailed, Global};
 use std::fmt;
@@ -60,11 +65,12 @@ enum Line {
     Bad,
 }
 
-/// The pairs of a place and a scalar of an index file, in the order of its lines, as `Tables::add` takes them.
+/// The pairs of a place and a scalar of an index file, in the order of its lines, as `Tables::add`
+/// takes them.
 ///
-/// Lines end at LF, or CR LF. An empty line and one that begins with `#` are skipped. Any other line is spaces, a place of
-/// one to nine digits, a tab, `0x`, four to six hexadecimal digits, and then the end, or a tab and anything; else it is a
-/// `BadLine`.
+/// Lines end at LF, or CR LF. An empty line and one that begins with `#` are skipped. Any other
+/// line is spaces, a place of one to nine digits, a tab, `0x`, four to six hexadecimal digits, and
+/// then the end, or a tab and anything; else it is a `BadLine`.
 pub fn read_index(alloc: Global, text: &[u8]) -> Result<Vec<(u32, u32)>, IndexError>
     ensures pairs { IfOk result (λ pairs. index_pairs text.now ≡ Ok pairs.items) }
     ensures fault { IfErr result (IsMemoryOrLine (index_pairs text.now)) }
@@ -131,7 +137,7 @@ fn line_of(line: &[u8]) -> Line
 
 // Whether a line is empty or begins with `#`.
 fn is_skipped(line: &[u8]) -> bool
-    ensures { result ≡ is_skipped line.now }
+    ensures { result ≡ skips_line line.now }
 {
     match line.first() {
         Some(b) => *b == b'#',
@@ -220,7 +226,7 @@ enum Class {
 
 impl Class {
     fn has(self, b: u8) -> bool
-        ensures { result ≡ is_in self b }
+        ensures { result ≡ is_of_class self b }
     {
         match self {
             Class::Space => b == b' ',
@@ -244,15 +250,15 @@ fn is_hex_digit(b: u8) -> bool
 
 // The bytes of a class at the front, and what is behind them.
 fn split_front(class: Class, text: &[u8]) -> (&[u8], &[u8])
-    ensures front { result.0.now ≡ take (prefix_len (is_in class) text.now) text.now }
-    ensures behind { result.1.now ≡ drop (prefix_len (is_in class) text.now) text.now }
+    ensures front { result.0.now ≡ take (prefix_len (is_of_class class) text.now) text.now }
+    ensures behind { result.1.now ≡ drop (prefix_len (is_of_class class) text.now) text.now }
 {
     text.split_at(front_len(class, text))
 }
 
 // How many bytes at the front are of a class.
 fn front_len(class: Class, text: &[u8]) -> usize
-    ensures front { result ≡ prefix_len (is_in class) text.now }
+    ensures front { result ≡ prefix_len (is_of_class class) text.now }
     ensures within { result ≤ length text.now }
 {
     for (i, b) in text.iter().enumerate() {
@@ -267,7 +273,7 @@ fn front_len(class: Class, text: &[u8]) -> usize
 fn number_of(base: u32, digits: &[u8]) -> u32
     requires digits { AreDigits base digits.now }
     requires fits { base ^ length digits.now ≤ 2 ^ 32 }
-    ensures { result ≡ number_of base digits.now }
+    ensures { result ≡ digits_number base digits.now }
 {
     let mut number = 0;
     for b in digits {

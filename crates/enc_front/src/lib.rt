@@ -3,11 +3,13 @@
 
 mod charset;
 mod decoder;
+mod encoder;
 mod encoding;
 mod index;
 mod index_file;
 pub mod laws;
 mod mark;
+mod output;
 mod rows;
 mod tables;
 mod variant;
@@ -15,6 +17,7 @@ mod whole;
 
 pub use charset::Charset;
 pub use decoder::Decoder;
+pub use encoder::Encoder;
 pub use encoding::{Encoding, SingleName};
 pub use index_file::{IndexError, read_index};
 pub use tables::{IndexKind, TableError, Tables, Why};

@@ -1,6 +1,7 @@
 //! The rows of an index, checked one by one.
 
-ghost use Rattle.std.specs.Prelude.{◌≡◌, ℕ, ◌+◌, ◌-◌, ◌<◌, ◌≤◌, true, false, length, drop, None, IfErr, IfOk, IfSome, IsTrue};
+ghost use Rattle.std.specs.Prelude.{◌≡◌, ℕ, ◌+◌, ◌-◌, ◌<◌, ◌≤◌, true, false, length, drop, None};
+ghost use Rattle.std.specs.Prelude.{IfErr, IfOk, IfSome, IsTrue};
 ghost use Rattle.std.specs.List.Sorted.{IsNonDecreasingBy};
 ghost use Rattle.std.specs.Option.{option_map};
 ghost use Rattle.enc_drivers.specs.Lookup.{FindsScalars};
@@ -9,7 +10,8 @@ ghost use Rattle.enc_front.specs.Indexes.{IsMemoryOr, row_error};
 ghost use Rattle.enc_front.specs.Kinds.{is_ranges};
 ghost use Rattle.enc_front.specs.Ranges.{range_places};
 ghost use Rattle.enc_front.specs.Scalars.{is_scalar};
-ghost use Rattle.enc_front.specs.Tables.{NumbersAreScalars, SomeNumberFails, flat_why, follows, pair_places, range_why, row_fault, run_end, run_fails};
+ghost use Rattle.enc_front.specs.Tables.{NumbersAreScalars, SomeNumberFails, flat_why, follows};
+ghost use Rattle.enc_front.specs.Tables.{pair_places, range_why, row_fault, run_end, run_fails};
 
 use crate::index::{Cells, Index, sorted_keys};
 use crate::tables::{IndexKind, TableError, Why};
@@ -37,8 +39,9 @@ pub(crate) fn flat_index(
             None => cells.put(pair.0, pair.1),
         }
     }
+    let entries = cells.entries(alloc)?;
     let keys = sorted_keys(alloc, pairs)?;
-    Ok(Index::of(cells, keys))
+    Ok(Index::of(cells, entries, keys))
 }
 
 // Why a row can't stand in a flat index, where `taken` says that an earlier one has its place.
@@ -64,7 +67,7 @@ fn flat_why(kind: IndexKind, taken: bool, row: (u32, u32)) -> Option<Why>
 }
 
 // Whether a number is a scalar's.
-fn is_scalar(number: u32) -> bool
+pub(crate) fn is_scalar(number: u32) -> bool
     ensures { result ≡ is_scalar number }
 {
     number < 0xD800 || (0xE000 <= number && number < 0x11_0000)
@@ -127,8 +130,8 @@ fn follows(last: Option<u32>, place: u32) -> bool
     }
 }
 
-// Whether a place of the row's run, which ends before `end`, gets no scalar: the parts of the run between the places that the
-// ranges leave out.
+// Whether a place of the row's run, which ends before `end`, gets no scalar: the parts of the run
+// between the places that the ranges leave out.
 fn run_fails(row: (u32, u32), end: u32) -> bool
     requires { IsTrue (is_scalar row.1) }
     ensures { result ≡ run_fails row end }
@@ -142,8 +145,9 @@ fn run_fails(row: (u32, u32), end: u32) -> bool
     part_fails(row, 189_000, end.min(RANGE_PLACES))
 }
 
-// Whether a place from `low` to before `high`, of those that aren't below the row's, gets a number that is no scalar. The
-// numbers are in a row, so they are all scalars if they are all below the surrogates or all above them.
+// Whether a place from `low` to before `high`, of those that aren't below the row's, gets a number
+// that is no scalar. The numbers are in a row, so they are all scalars if they are all below the
+// surrogates or all above them.
 fn part_fails(row: (u32, u32), low: u32, high: u32) -> bool
     requires scalar { IsTrue (is_scalar row.1) }
     requires high { high ≤ 1237576 }

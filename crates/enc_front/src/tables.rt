@@ -1,12 +1,13 @@
 //! Indexes of scalars, which are handed in.
 
-ghost use Rattle.std.specs.Prelude.{◌≡◌, ℕ, ◌≤◌, true, false, [], ◌∷◌, ◌++◌, None, Some, Err, IfErr, IfOk, IfSome, OnOk, OnErr};
+ghost use Rattle.std.specs.Prelude.{◌≡◌, ℕ, ◌≤◌, true, false, [], ◌∷◌, ◌++◌, None, Some, Err};
+ghost use Rattle.std.specs.Prelude.{IfErr, IfOk, IfSome, OnOk, OnErr};
 ghost use Rattle.std.specs.Option.{option_map};
 ghost use Rattle.enc_drivers.specs.Lookup.{HasNoAstral};
 ghost use Rattle.enc_front.specs.Index.{any_places, index_places, ranges_places, is_of_ranges};
 ghost use Rattle.enc_front.specs.Kinds.{is_bmp, is_ranges, place_count, same_kind};
 
-use crate::encoding::{Encoding, SingleName};
+use crate::encoding::{Encoding, Kinds, SingleName};
 use crate::index::{AnyIndex, Index, Ranges};
 use crate::rows::{flat_index, ranges_fault};
 use std::alloc::{AllocError, AllocFailed, Global};
@@ -80,7 +81,8 @@ fn is_same(a: IndexKind, b: IndexKind) -> bool
 pub enum Why {
     /// Its place isn't below the number of places of the kind.
     Place,
-    /// Its place isn't above that of the row before it, or isn't 0 at the first row. Of ranges only.
+    /// Its place isn't above that of the row before it, or isn't 0 at the first row. Of ranges
+    /// only.
     Order,
     /// A row before it has this place. Not of ranges.
     Twice,
@@ -173,7 +175,8 @@ pub struct Tables {
 
 impl Tables {
     ghost use Rattle.enc_front.specs.declared.tables.TableError.TheVariants.{AlreadyThere};
-    ghost use Rattle.enc_front.specs.Indexes.{AreChecked, IsMemoryOr, has_kind, index_in, indexes_of, known, of_entry, table_fault, with_index};
+    ghost use Rattle.enc_front.specs.Indexes.{AreChecked, IsMemoryOr, has_kind, index_in};
+    ghost use Rattle.enc_front.specs.Indexes.{indexes_of, known, of_entry, table_fault, with_index};
 
     /// No index.
     pub fn new() -> Tables
@@ -182,19 +185,23 @@ impl Tables {
         Tables { entries: None }
     }
 
-    /// Makes an index of pairs of a place and a scalar, for the ranges of the first place of each run and its scalar, in
-    /// the order of the places. Places without a pair have no scalar. `AlreadyThere` where there is an index of this kind,
-    /// else `BadTable` for the first faulty row; then, and where there is no memory, the tables are as before.
+    /// Makes an index of pairs of a place and a scalar, for the ranges of the first place of each
+    /// run and its scalar, in the order of the places. Places without a pair have no scalar.
+    /// `AlreadyThere` where there is an index of this kind, else `BadTable` for the first faulty
+    /// row; then, and where there is no memory, the tables are as before.
     pub fn add(
         &mut self,
         alloc: Global,
         kind: IndexKind,
         pairs: &[(u32, u32)],
     ) -> Result<(), TableError>
-        ensures added { OnOk result (indexes_of self.new ≡ with_index (indexes_of self.old) kind pairs.now) }
+        ensures added { OnOk result
+            (indexes_of self.new ≡ with_index (indexes_of self.old) kind pairs.now) }
         ensures sound { OnOk result (table_fault (indexes_of self.old) kind pairs.now ≡ None) }
-        ensures fault { IfErr result (IsMemoryOr (table_fault (indexes_of self.old) kind pairs.now)) }
-        ensures there { has_kind (indexes_of self.old) kind ≡ true → result ≡ Err (AlreadyThere kind) }
+        ensures fault { IfErr result
+            (IsMemoryOr (table_fault (indexes_of self.old) kind pairs.now)) }
+        ensures there { has_kind (indexes_of self.old) kind ≡ true
+            → result ≡ Err (AlreadyThere kind) }
         ensures kept { OnErr result (indexes_of self.new ≡ indexes_of self.old) }
     {
         if self.has_kind(kind) {
@@ -208,23 +215,10 @@ impl Tables {
     pub fn has(&self, encoding: Encoding) -> bool
         ensures { result ≡ known encoding (indexes_of self.now) }
     {
-        match encoding {
-            Encoding::Utf8
-            | Encoding::Utf16Be
-            | Encoding::Utf16Le
-            | Encoding::Windows1252
-            | Encoding::UserDefined => true,
-            Encoding::Single(name) => self.has_kind(IndexKind::Single(name)),
-            Encoding::Iso8859_8I => self.has_kind(IndexKind::Single(SingleName::Iso8859_8)),
-            Encoding::Gbk | Encoding::Gb18030 => {
-                self.has_kind(IndexKind::Gb18030) && self.has_kind(IndexKind::Gb18030Ranges)
-            }
-            Encoding::Big5 => self.has_kind(IndexKind::Big5),
-            Encoding::EucJp => {
-                self.has_kind(IndexKind::Jis0208) && self.has_kind(IndexKind::Jis0212)
-            }
-            Encoding::Iso2022Jp | Encoding::ShiftJis => self.has_kind(IndexKind::Jis0208),
-            Encoding::EucKr => self.has_kind(IndexKind::EucKr),
+        match encoding.kinds() {
+            Kinds::None => true,
+            Kinds::One(kind) => self.has_kind(kind),
+            Kinds::Two(kind, other) => self.has_kind(kind) && self.has_kind(other),
         }
     }
 
@@ -238,8 +232,10 @@ impl Tables {
     // The flat index of a kind.
     pub(crate) fn index(&self, kind: IndexKind) -> Option<&Index>
         requires { is_ranges kind ≡ false }
-        ensures index { option_map (λ found. index_places found.now) result ≡ index_in (indexes_of self.now) kind }
-        ensures bmp { is_bmp kind ≡ true → IfSome result (λ found. HasNoAstral (index_places found.now)) }
+        ensures index { option_map (λ found. index_places found.now) result
+            ≡ index_in (indexes_of self.now) kind }
+        ensures bmp { is_bmp kind ≡ true
+            → IfSome result (λ found. HasNoAstral (index_places found.now)) }
     {
         let entry = self.find(kind)?;
         match &entry.index {
@@ -250,7 +246,8 @@ impl Tables {
 
     // The ranges.
     pub(crate) fn ranges(&self) -> Option<&Ranges>
-        ensures { option_map (λ found. ranges_places found.now) result ≡ index_in (indexes_of self.now) IndexKind.Gb18030Ranges }
+        ensures { option_map (λ found. ranges_places found.now) result
+            ≡ index_in (indexes_of self.now) IndexKind.Gb18030Ranges }
     {
         let entry = self.find(IndexKind::Gb18030Ranges)?;
         match &entry.index {
@@ -261,7 +258,8 @@ impl Tables {
 
     // The entry of a kind.
     fn find(&self, kind: IndexKind) -> Option<&Entry>
-        ensures index { option_map (λ found. any_places found.now.index) result ≡ index_in (indexes_of self.now) kind }
+        ensures index { option_map (λ found. any_places found.now.index) result
+            ≡ index_in (indexes_of self.now) kind }
         ensures kind { IfSome result (λ found. found.now.kind ≡ kind) }
     {
         let Some(entries) = &self.entries else {
@@ -277,7 +275,8 @@ impl Tables {
 
     // Adds an entry.
     fn push(&mut self, alloc: Global, entry: Entry) -> Result<(), TableError>
-        ensures added { OnOk result (indexes_of self.new ≡ indexes_of self.old ++ of_entry entry ∷ []) }
+        ensures added { OnOk result
+            (indexes_of self.new ≡ indexes_of self.old ++ of_entry entry ∷ []) }
         ensures memory { OnErr result (result ≡ Err TableError.Memory) }
         ensures kept { OnErr result (indexes_of self.new ≡ indexes_of self.old) }
     {
@@ -302,7 +301,8 @@ impl Entry {
     fn of_pairs(alloc: Global, kind: IndexKind, pairs: &[(u32, u32)]) -> Result<Entry, TableError>
         ensures entry { IfOk result (λ entry. of_entry entry ≡ (kind, places_of kind pairs.now)) }
         ensures sound { IfOk result (λ _. row_fault kind pairs.now ≡ None) }
-        ensures fault { IfErr result (IsMemoryOr (option_map row_error (row_fault kind pairs.now))) }
+        ensures fault { IfErr result
+            (IsMemoryOr (option_map row_error (row_fault kind pairs.now))) }
     {
         if kind.is_ranges() {
             return Entry::of_rows(alloc, pairs);
@@ -312,9 +312,11 @@ impl Entry {
 
     // The ranges that are made of these rows.
     fn of_rows(alloc: Global, rows: &[(u32, u32)]) -> Result<Entry, TableError>
-        ensures entry { IfOk result (λ entry. of_entry entry ≡ (Gb18030Ranges, range_places rows.now)) }
+        ensures entry { IfOk result
+            (λ entry. of_entry entry ≡ (Gb18030Ranges, range_places rows.now)) }
         ensures sound { IfOk result (λ _. row_fault Gb18030Ranges rows.now ≡ None) }
-        ensures fault { IfErr result (IsMemoryOr (option_map row_error (row_fault Gb18030Ranges rows.now))) }
+        ensures fault { IfErr result
+            (IsMemoryOr (option_map row_error (row_fault Gb18030Ranges rows.now))) }
     {
         match ranges_fault(rows) {
             Some((row, why)) => return Err(TableError::BadTable { row, why }),
@@ -332,7 +334,8 @@ impl Entry {
         requires { is_ranges kind ≡ false }
         ensures entry { IfOk result (λ entry. of_entry entry ≡ (kind, pair_places pairs.now)) }
         ensures sound { IfOk result (λ _. row_fault kind pairs.now ≡ None) }
-        ensures fault { IfErr result (IsMemoryOr (option_map row_error (row_fault kind pairs.now))) }
+        ensures fault { IfErr result
+            (IsMemoryOr (option_map row_error (row_fault kind pairs.now))) }
     {
         let index = flat_index(alloc, kind, pairs)?;
         Ok(Entry {

@@ -1,8 +1,13 @@
-//! The driver of an encoding.
+//! The codes of encodings: the driver of each, and its encoder.
 ghost use Rattle.std.specs.Prelude.{◌≡◌, true, false, encode_utf8, IsTrue};
+ghost use Rattle.std.specs.Char.Escape.{encode_utf16};
+ghost use Rattle.std.specs.Str.{chars};
+ghost use Rattle.enc_handles.specs.Scalars.{scalars16, is_seam8, is_seam16};
 ghost use Rattle.enc_drivers.specs.Decodes.{DecodesRaw};
+ghost use Rattle.enc_drivers.specs.Encodes.{EncodesRaw};
 ghost use Rattle.enc_drivers.specs.Lookup.{HasNoAstral};
 ghost use Rattle.enc_front.specs.DecoderSteps.{at_start};
+ghost use Rattle.enc_front.specs.Encoder.{bytes_in, has_encoder, most_bytes};
 ghost use Rattle.enc_front.specs.Index.{index_places, ranges_places};
 ghost use Rattle.enc_front.specs.Indexes.{has_kind, indexes_of, known, places_in};
 ghost use Rattle.enc_front.specs.Kinds.{is_bmp, is_ranges};
@@ -27,8 +32,12 @@ use enc_drivers::drivers::euc_jp::EucJpDriver;
 use enc_drivers::drivers::gb18030::Gb18030Driver;
 use enc_drivers::drivers::general::GeneralDriver;
 use enc_drivers::drivers::two_byte::TwoByteDriver;
+use enc_drivers::encoders::{
+    ascii_compatible_bmp_encode_from_utf8_raw, ascii_compatible_bmp_encode_from_utf16_raw,
+    ascii_compatible_encode_from_utf8_raw, ascii_compatible_encode_from_utf16_raw,
+};
 use enc_handles::endian::{BigEndian, LittleEndian};
-use enc_handles::results::DecoderResult;
+use enc_handles::results::{DecoderResult, EncoderResult};
 
 // A driver, by its type.
 #[derive(Drop)]
@@ -140,10 +149,23 @@ impl<'t> VariantDecoder<'t> {
     {
         on_driver!(self, driver => driver.decode_to_utf8_raw(src, dst, last))
     }
+
+    // Decodes to UTF-16, as the driver does.
+    pub(crate) fn decode_to_utf16_raw(
+        &mut self,
+        src: &[u8],
+        dst: &mut [u16],
+        last: bool,
+    ) -> (DecoderResult, usize, usize)
+        ensures { DecodesRaw (unit_in self.old) (unit_in self.new) encode_utf16 2 last
+            (standing_in self.old) (standing_in self.new) src.now dst.old dst.new result }
+    {
+        on_driver!(self, driver => driver.decode_to_utf16_raw(src, dst, last))
+    }
 }
 
 // The index of a kind, which is there.
-fn index_of(tables: &Tables, kind: IndexKind) -> &Index
+pub(crate) fn index_of(tables: &Tables, kind: IndexKind) -> &Index
     requires flat { is_ranges kind ≡ false }
     requires there { has_kind (indexes_of tables.now) kind ≡ true }
     ensures index { index_places result.now ≡ places_in (indexes_of tables.now) kind }
@@ -156,7 +178,7 @@ fn index_of(tables: &Tables, kind: IndexKind) -> &Index
 }
 
 // The ranges, which are there.
-fn ranges_of(tables: &Tables) -> &Ranges
+pub(crate) fn ranges_of(tables: &Tables) -> &Ranges
     requires { has_kind (indexes_of tables.now) IndexKind.Gb18030Ranges ≡ true }
     ensures { ranges_places result.now ≡ places_in (indexes_of tables.now) IndexKind.Gb18030Ranges }
 {
@@ -164,4 +186,96 @@ fn ranges_of(tables: &Tables) -> &Ranges
         Some(ranges) => ranges,
         None => unreachable!(),
     }
+}
+
+// Calls an encoder with the code of an encoding: the first where a scalar above U+FFFF may have
+// bytes, else the second.
+macro_rules! with_code {
+    ($encoding:expr, $tables:expr, $any:ident, $bmp:ident, $src:expr, $dst:expr, $last:expr) => {
+        match $encoding {
+            Encoding::Utf8 | Encoding::Utf16Be | Encoding::Utf16Le => {
+                $any(&Utf8Code::new(), $src, $dst, $last)
+            }
+            Encoding::Windows1252 => $bmp(&Windows1252::new(), $src, $dst, $last),
+            Encoding::UserDefined => $bmp(&UserDefined::new(), $src, $dst, $last),
+            Encoding::Single(name) => {
+                let index = index_of($tables, IndexKind::Single(name));
+                $bmp(&SingleByte::new(index), $src, $dst, $last)
+            }
+            Encoding::Iso8859_8I => {
+                let index = index_of($tables, IndexKind::Single(SingleName::Iso8859_8));
+                $bmp(&SingleByte::new(index), $src, $dst, $last)
+            }
+            Encoding::Gbk => {
+                let index = index_of($tables, IndexKind::Gb18030);
+                let ranges = ranges_of($tables);
+                $any(&Gb18030::new(index, ranges, true), $src, $dst, $last)
+            }
+            Encoding::Gb18030 => {
+                let index = index_of($tables, IndexKind::Gb18030);
+                let ranges = ranges_of($tables);
+                $any(&Gb18030::new(index, ranges, false), $src, $dst, $last)
+            }
+            Encoding::EucJp => {
+                let jis0208 = index_of($tables, IndexKind::Jis0208);
+                let jis0212 = index_of($tables, IndexKind::Jis0212);
+                $bmp(&EucJp::new(jis0208, jis0212), $src, $dst, $last)
+            }
+            Encoding::EucKr => {
+                let index = index_of($tables, IndexKind::EucKr);
+                $bmp(&EucKr::new(index), $src, $dst, $last)
+            }
+            Encoding::Big5 | Encoding::ShiftJis | Encoding::Iso2022Jp => unreachable!(),
+        }
+    };
+}
+
+// Encodes UTF-8 by the code of an encoding.
+#[tactic(auto, using(crate::proofs::EncoderLemmas::codes_keep))]
+pub(crate) fn encode_from_utf8_raw(
+    encoding: Encoding,
+    tables: &Tables,
+    src: &str,
+    dst: &mut [u8],
+    last: bool,
+) -> (EncoderResult, usize, usize)
+    requires can { has_encoder encoding ≡ true }
+    requires has { IsTrue (known encoding (indexes_of tables.now)) }
+    ensures { EncodesRaw chars is_seam8 (bytes_in encoding (indexes_of tables.now))
+        (most_bytes encoding) src.now dst.old dst.new result }
+{
+    with_code!(
+        encoding,
+        tables,
+        ascii_compatible_encode_from_utf8_raw,
+        ascii_compatible_bmp_encode_from_utf8_raw,
+        src,
+        dst,
+        last
+    )
+}
+
+// Encodes UTF-16 by the code of an encoding.
+#[tactic(auto, using(crate::proofs::EncoderLemmas::codes_keep))]
+pub(crate) fn encode_from_utf16_raw(
+    encoding: Encoding,
+    tables: &Tables,
+    src: &[u16],
+    dst: &mut [u8],
+    last: bool,
+) -> (EncoderResult, usize, usize)
+    requires can { has_encoder encoding ≡ true }
+    requires has { IsTrue (known encoding (indexes_of tables.now)) }
+    ensures { EncodesRaw scalars16 is_seam16 (bytes_in encoding (indexes_of tables.now))
+        (most_bytes encoding) src.now dst.old dst.new result }
+{
+    with_code!(
+        encoding,
+        tables,
+        ascii_compatible_encode_from_utf16_raw,
+        ascii_compatible_bmp_encode_from_utf16_raw,
+        src,
+        dst,
+        last
+    )
 }

@@ -1,5 +1,6 @@
 //! The text of whole values, in one call of a decoder.
-ghost use Rattle.std.specs.Prelude.{◌≡◌, Some, IfOk, IsTrue, vec_len, string_bytes};
+ghost use Rattle.std.specs.Prelude.{◌≡◌, ◌++◌, if◌then◌else◌, is_ok, IfOk, OnOk, IsTrue, string_bytes};
+ghost use Rattle.std.specs.Str.{IsUtf8};
 ghost use Rattle.enc_drivers.specs.Units.{text};
 ghost use Rattle.enc_front.specs.Decoder.{to_come};
 ghost use Rattle.enc_front.specs.DecoderView.{place_of, standing_of, fresh};
@@ -28,8 +29,10 @@ impl Encoding {
         bytes: &[u8],
     ) -> Result<(String, bool), AllocError>
         requires { IsTrue (known self (indexes_of tables.now)) }
-        ensures text { IfOk result (λ r. string_bytes r.0 ≡ decoded self (indexes_of tables.now) bytes.now) }
-        ensures malformed { IfOk result (λ r. r.1 ≡ has_malformed self (indexes_of tables.now) bytes.now) }
+        ensures text { IfOk result
+            (λ r. string_bytes r.0 ≡ decoded self (indexes_of tables.now) bytes.now) }
+        ensures malformed { IfOk result
+            (λ r. r.1 ≡ has_malformed self (indexes_of tables.now) bytes.now) }
     {
         decode_whole(
             alloc,
@@ -57,30 +60,49 @@ impl Encoding {
 }
 
 // The text of all bytes of a decoder's stream, with U+FFFD for each malformed unit, and whether
-// there is one. The room is taken once.
+// there is one.
 pub(crate) fn decode_whole(
     alloc: Global,
-    mut decoder: Decoder<'_>,
+    decoder: Decoder<'_>,
     bytes: &[u8],
 ) -> Result<(String, bool), AllocError>
     requires { standing_of decoder ≡ fresh (place_of decoder).marks (place_of decoder).encoding
         (place_of decoder).indexes }
-    ensures text { IfOk result (λ r. string_bytes r.0 ≡ text (to_come (place_of decoder.entry) bytes.now)) }
-    ensures malformed { IfOk result (λ r. r.1 ≡ some_malformed (to_come (place_of decoder.entry) bytes.now)) }
+    ensures text { IfOk result
+        (λ r. string_bytes r.0 ≡ text (to_come (place_of decoder.entry) bytes.now)) }
+    ensures malformed { IfOk result
+        (λ r. r.1 ≡ some_malformed (to_come (place_of decoder.entry) bytes.now)) }
 {
-    let mut text = text_room(alloc, decoder.max_utf8_buffer_length(bytes.len()))?;
-    let (_, _, written, malformed) = decoder.decode_to_utf8(bytes, text.as_mut_slice(), true);
-    text.truncate(written);
-    match String::from_utf8(text) {
-        Ok(text) => Ok((text, malformed)),
-        Err(_) => unreachable!(),
-    }
+    let mut text = Vec::new(alloc);
+    let malformed = append_whole(decoder, bytes, &mut text)?;
+    Ok((unsafe { String::from_utf8_unchecked(text) }, malformed))
 }
 
-// Room of so many bytes.
-fn text_room(alloc: Global, room: Option<usize>) -> Result<Vec<u8>, AllocError>
-    ensures { IfOk result (λ text. room ≡ Some (vec_len text)) }
+// Appends the text of all bytes of a decoder's stream, with U+FFFD for each malformed unit, and
+// answers whether there is one. The room is taken once. Where there is no memory, nothing changes.
+pub(crate) fn append_whole(
+    mut decoder: Decoder<'_>,
+    bytes: &[u8],
+    buffer: &mut Vec<u8>,
+) -> Result<bool, AllocError>
+    requires { standing_of decoder ≡ fresh (place_of decoder).marks (place_of decoder).encoding
+        (place_of decoder).indexes }
+    ensures appended { buffer.new.items ≡ (if is_ok result
+        then buffer.old.items ++ text (to_come (place_of decoder.entry) bytes.now)
+        else buffer.old.items) }
+    ensures malformed { IfOk result (λ some.
+        some ≡ some_malformed (to_come (place_of decoder.entry) bytes.now)) }
+    ensures utf_8 { OnOk result (IsUtf8 (text (to_come (place_of decoder.entry) bytes.now))) }
 {
-    let room = room.ok_or(AllocError)?;
-    vec![in alloc; 0u8; room]
+    let Some(room) = decoder.max_utf8_buffer_length(bytes.len()) else {
+        return Err(AllocError);
+    };
+    let start = buffer.len();
+    let Some(end) = start.checked_add(room) else {
+        return Err(AllocError);
+    };
+    buffer.resize(end, 0)?;
+    let (_, _, written, malformed) = decoder.decode_to_utf8(bytes, &mut buffer[start..], true);
+    buffer.truncate(start + written);
+    Ok(malformed)
 }

@@ -15,11 +15,13 @@ few_bytes EfBb = omega arith
 few_bytes Fe = omega arith
 few_bytes Ff = omega arith
 
-pub few_at : (start : Start) (a replay : List ℕ) → length a + length replay ≤ 3 → length (held_at start (a ++ replay)) ≤ 3
+pub few_at : (start : Start) (a replay : List ℕ) → length a + length replay ≤ 3
+    → length (held_at start (a ++ replay)) ≤ 3
 few_at Any a replay few = omega arith
 few_at Own a replay few = omega arith
 few_at (Seen part) a replay few = few_bytes part
 few_at Over a replay few = omega (arith, length-append a replay)
 
 pub few_held : (decoder : Decoder) → length (place_of decoder).held ≤ 3
-few_held decoder = few_at decoder.start (standing_in decoder.variant).held decoder.replay.now decoder.few
+few_held decoder = few_at decoder.start (standing_in decoder.variant).held decoder.replay.now
+    decoder.few

@@ -3,25 +3,17 @@ use std::test::Fail;
 
 #[test]
 fn reads_pairs(rt: HostRuntime) -> Result<(), Fail> {
-    let rows: [(&[u8], &[(u32, u32)]); 13] = [
-        (b"", &[]),
-        (b"\n\n", &[]),
-        (b"\r\n", &[]),
-        (b"# a comment\n#", &[]),
-        (b"  3\t0x4E00", &[(3, 0x4E00)]),
-        (b"3\t0x4E00\n", &[(3, 0x4E00)]),
-        (b"3\t0x4E00\r\n", &[(3, 0x4E00)]),
+    let rows: [(&[u8], &[(u32, u32)]); 5] = [
+        (b"\r\n# a comment\n#", &[]),
         (b"1\t0x4E00\r", &[(1, 0x4E00)]),
-        (b"3\t0x4E00\t", &[(3, 0x4E00)]),
         (b"3\t0x4E00\tanything \xff\t#\n", &[(3, 0x4E00)]),
         (
             b"0\t0xabcdef\n0\t0xABCDEF",
             &[(0, 0xAB_CDEF), (0, 0xAB_CDEF)],
         ),
-        (b"999999999\t0x12345", &[(999_999_999, 0x1_2345)]),
         (
-            b"# a comment\r\n    7\t0x0416\tletter\n\n 007\t0x20000\n",
-            &[(7, 0x416), (7, 0x2_0000)],
+            b"999999999\t0x12345\n\n 007\t0x20000",
+            &[(999_999_999, 0x1_2345), (7, 0x2_0000)],
         ),
     ];
     for (text, want) in rows {
@@ -33,31 +25,19 @@ fn reads_pairs(rt: HostRuntime) -> Result<(), Fail> {
 
 #[test]
 fn counts_lines_to_the_first_bad_one(rt: HostRuntime) {
-    let rows: [(&[u8], usize); 24] = [
+    let rows: [(&[u8], usize); 12] = [
         (b"  3\t0x4E00\nx", 2),
         (b"\r\n\n#\n3\t0x4E00\nx\ny", 5),
-        (b"\r\r\n", 1),
         (b"3\t0x4E00\r\r\n", 1),
-        (b" ", 1),
         (b" #", 1),
         (b"\t3\t0x4E00", 1),
-        (b"3", 1),
-        (b"3\t", 1),
         (b"3\t0x", 1),
-        (b"\t0x4E00", 1),
-        (b"+3\t0x4E00", 1),
         (b"-3\t0x4E00", 1),
-        (b"3 \t0x4E00", 1),
         (b"3\t\t0x4E00", 1),
-        (b"3 0x4E00", 1),
-        (b"3\t4E00", 1),
         (b"3\t0X4E00", 1),
         (b"1234567890\t0x4E00", 1),
         (b"3\t0x4E0", 1),
-        (b"3\t0x4E00000", 1),
         (b"3\t0x4E0G", 1),
-        (b"3\t0x4E00 ", 1),
-        (b"3\t0x+4E00", 1),
     ];
     for (text, line) in rows {
         let fault = read_index(rt.alloc(), text).err();

@@ -1,4 +1,5 @@
 use super::*;
+use crate::charset::Charset;
 use std::test::Fail;
 
 #[test]
@@ -27,5 +28,16 @@ fn whole_values(rt: HostRuntime) -> Result<(), Fail> {
     let other = Encoding::Utf16Le.decode_with_bom_removal(alloc, &tables, b"\xfe\xff\x41\x00")?;
     assert_eq!(rt; other.0.as_str(), "\u{fffe}A");
     assert!(rt; !other.1);
+    Ok(())
+}
+
+#[test]
+fn appended_texts(rt: HostRuntime) -> Result<(), Fail> {
+    let tables = Tables::new();
+    let latin = Charset::for_label(b"latin1", &tables).ok_or("no charset")?;
+    let mut text = b"a".to_vec(rt.alloc())?;
+    latin.append(b"\xe9", &tables, &mut text)?;
+    Charset::append_ascii(b"b\xe9", &mut text)?;
+    assert_eq!(rt; text.as_slice(), "a\u{e9}b\u{fffd}".as_bytes());
     Ok(())
 }

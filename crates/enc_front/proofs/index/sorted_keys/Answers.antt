@@ -6,7 +6,9 @@ use Rattle.enc_front.proofs.index.sorted_keys.Goals as goal
 
 pub returns-clause-keys : goal.returns-clause-keys
 returns-clause-keys c key =
-    sym (list_any-IsPermutation (λ k. k == key) _ _ c.sort_unstable.ensures.permutation) ∙ ap (λ keys. has_key keys key) c.in_ok-keys.ensures
+    sym (list_any-IsPermutation (λ k. k == key) _ _ c.sort_unstable.ensures.permutation)
+    ∙ ap (λ keys. has_key keys key) c.in_ok-keys.ensures
 
 pub returns-clause-sorted : goal.returns-clause-sorted
-returns-clause-sorted c = IsNonDecreasingBy-from_sort (λ (k : ℕ). k) _ c.sort_unstable.ensures.sorted
+returns-clause-sorted c =
+    IsNonDecreasingBy-from_sort (λ (k : ℕ). k) _ c.sort_unstable.ensures.sorted

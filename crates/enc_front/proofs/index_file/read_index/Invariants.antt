@@ -4,7 +4,8 @@ use Rattle.enc_front.proofs.index_file.read_index.Given as goal
 
 abbrev pub invariant-loop-rest : goal.invariant-loop-rest
 invariant-loop-rest l = record {
-  whole : before_pairs l.pairs.items (pairs_of_lines l.number (lines_of l.rest)) ≡ index_pairs l.text;
+  whole : before_pairs l.pairs.items (pairs_of_lines l.number (lines_of l.rest))
+      ≡ index_pairs l.text;
   count : l.number + length l.rest ≤ length l.text + 1;
 }
 

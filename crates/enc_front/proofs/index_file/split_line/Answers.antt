@@ -15,4 +15,5 @@ pub returns-clause-lines : goal.returns-clause-lines
 returns-clause-lines c =
     let text : List ℕ = c.args.text.now in
     line_whole text c.requires (λ k below. c.loop-end.invariant k (omega arith))
-    ∙ ap (λ t. text ∷ lines_of t) (sym (take_rest text (length text) ∙ drop_all (length text) text (omega arith)))
+    ∙ ap (λ t. text ∷ lines_of t)
+    (sym (take_rest text (length text) ∙ drop_all (length text) text (omega arith)))

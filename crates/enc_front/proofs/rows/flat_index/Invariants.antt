@@ -7,6 +7,7 @@ use Rattle.enc_front.proofs.rows.flat_index.Given as goal
 abbrev pub invariant-loop-row : goal.invariant-loop-row
 invariant-loop-row l = record {
   len : length l.cells.cells.items ≡ place_count l.kind;
-  places : (place : ℕ) → cell_places l.cells.cells.items place ≡ pair_places (take l.row l.pairs) place;
+  places : (place : ℕ)
+      → cell_places l.cells.cells.items place ≡ pair_places (take l.row l.pairs) place;
   fault : fault_behind l.kind (take l.row l.pairs) (drop l.row l.pairs) ≡ row_fault l.kind l.pairs;
 }

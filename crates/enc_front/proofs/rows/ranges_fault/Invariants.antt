@@ -6,5 +6,6 @@ use Rattle.enc_front.proofs.rows.ranges_fault.Given as goal
 abbrev pub invariant-loop-at : goal.invariant-loop-at
 invariant-loop-at l = record {
   last : l.last ≡ last_place (take l.at l.rows);
-  fault : fault_behind Gb18030Ranges (take l.at l.rows) (drop l.at l.rows) ≡ row_fault Gb18030Ranges l.rows;
+  fault : fault_behind Gb18030Ranges (take l.at l.rows) (drop l.at l.rows)
+      ≡ row_fault Gb18030Ranges l.rows;
 }

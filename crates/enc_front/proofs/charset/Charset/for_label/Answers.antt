@@ -13,13 +13,15 @@ returns-in_err-encoding-clause-encoding c =
 pub returns-then-has-clause-encoding : goal.returns-then-has-clause-encoding
 unfolding charset
 returns-then-has-clause-encoding c =
-    let some : label c.args.label.now ≡ Some c.in_ok-encoding.encoding = sym c.in_ok-encoding.ensures in
+    let some : label c.args.label.now
+    ≡ Some c.in_ok-encoding.encoding = sym c.in_ok-encoding.ensures in
     let is_known : known c.in_ok-encoding.encoding (indexes_of c.args.tables.now) ≡ true = cc in
     rw (some, is_known) refl
 
 pub returns-else-has-clause-encoding : goal.returns-else-has-clause-encoding
 unfolding charset
 returns-else-has-clause-encoding c =
-    let some : label c.args.label.now ≡ Some c.in_ok-encoding.encoding = sym c.in_ok-encoding.ensures in
+    let some : label c.args.label.now
+    ≡ Some c.in_ok-encoding.encoding = sym c.in_ok-encoding.ensures in
     let unknown : known c.in_ok-encoding.encoding (indexes_of c.args.tables.now) ≡ false = cc in
     rw (some, unknown) refl

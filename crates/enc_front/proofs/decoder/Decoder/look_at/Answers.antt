@@ -12,9 +12,11 @@ returns-in-Mark c =
     let look = c.in-Mark.ensures in
     let begun = c.begin.ensures in
     record {
-      taken = λ e more. mark_to_come _ _ _ _ _ _ _ c.in_default.not-Over look more ∙ sym (ap (λ (s : DecoderPlace). to_come s more) begun.place);
+      taken = λ e more. mark_to_come _ _ _ _ _ _ _ c.in_default.not-Over look more
+          ∙ sym (ap (λ (s : DecoderPlace). to_come s more) begun.place);
       open_before = λ e. open_start _ _ _ _ _ c.in_default.not-Over;
-      taken_encoding = λ e more. mark_encoding _ _ _ _ _ c.in_default.not-Over look more ∙ sym (ap (λ (s : DecoderPlace). encoding_to_come s more) begun.place);
+      taken_encoding = λ e more. mark_encoding _ _ _ _ _ c.in_default.not-Over look more
+          ∙ sym (ap (λ (s : DecoderPlace). encoding_to_come s more) begun.place);
       held = λ e. omega (arith, ap (λ (s : DecoderPlace). length s.held) begun.place);
       refused = λ e. cc e;
       refused_units = λ e. cc e;
