@@ -8,6 +8,7 @@ use Rattle.enc_drivers.specs.Steps.{MayFollow}
 use Rattle.enc_drivers.specs.Units.{AreBytes}
 use Rattle.enc_front.specs.DecoderCalls.{DecodesReplacing, DecoderMayHold, has_used_up, owed_count}
 use Rattle.enc_front.specs.Decoder.{DecoderStanding, text_to_come}
+use Rattle.enc_front.specs.Output.{utf_8}
 use Rattle.enc_io.specs.Peeker.{FrontWaits, HasGivenAll, stream_bytes}
 use Rattle.enc_io.specs.Text.{chosen}
 use Rattle.enc_io.specs.Pieces.{DecodesPiece}
@@ -124,7 +125,7 @@ finished_still at decoder detected is done none_waits =
 
 -- a call of a decoder that wrote to the caller's buffer
 pub decodes_direct : (result : CoderResult) (last replaced : Bool) (before after : DecoderStanding) (src old new waits : List ℕ) (read written : ℕ)
-    → DecodesReplacing last before after src old new result read written replaced → waits ≡ [] → 4 ≤ length new → DecodesPiece last before after src read (take written new) waits
+    → DecodesReplacing utf_8 last before after src old new result read written replaced → waits ≡ [] → 4 ≤ length new → DecodesPiece last before after src read (take written new) waits
 decodes_direct result last replaced before after src old new waits read written call none large =
     let given = length-take-le written new call.written in
     decodes_piece result last before after src (take written new) waits read (length new) written

@@ -29,8 +29,8 @@ impl PossibleBom {
         }
     }
 
-    /// The encoding of the byte order mark at the front; none under three bytes. The Encoding Standard's "BOM sniff"
-    /// (section 6.1) takes the two bytes of a UTF-16 mark alone too.
+    /// The encoding of the byte order mark at the front; none under three bytes. The Encoding
+    /// Standard's "BOM sniff" (section 6.1) takes the two bytes of a UTF-16 mark alone too.
     pub fn encoding(&self) -> Option<Encoding>
         ensures { result ≡ peeked_encoding (bom_bytes self.now) }
     {

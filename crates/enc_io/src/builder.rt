@@ -45,8 +45,8 @@ impl fmt::Display for BuildError {
 
 impl Error for BuildError {}
 
-/// How a [`DecodeReaderBytes`] is to read. As made: no encoding is named, byte order marks are looked
-/// for, and the source may give 999,999,999 bytes.
+/// How a [`DecodeReaderBytes`] is to read. As made: no encoding is named, byte order marks are
+/// looked for, and the source may give 999,999,999 bytes.
 #[derive(Clone, Copy)]
 pub struct DecodeReaderBytesBuilder {
     encoding: Option<Encoding>,
@@ -95,8 +95,8 @@ impl DecodeReaderBytesBuilder {
         }
     }
 
-    /// Names the encoding of a stream, or none. A byte order mark decides instead only where none is named, or
-    /// with [`DecodeReaderBytesBuilder::bom_override`].
+    /// Names the encoding of a stream, or none. A byte order mark decides instead only where none
+    /// is named, or with [`DecodeReaderBytesBuilder::bom_override`].
     pub fn encoding(&mut self, encoding: Option<Encoding>) -> &mut DecodeReaderBytesBuilder
         ensures value { options_of result.now
             ≡ record (options_of self.old) { encoding = encoding } }
@@ -106,8 +106,8 @@ impl DecodeReaderBytesBuilder {
         self
     }
 
-    /// Whether a stream that begins with UTF-8's byte order mark passes as it is, where no encoding is
-    /// named.
+    /// Whether a stream that begins with UTF-8's byte order mark passes as it is, where no encoding
+    /// is named.
     pub fn utf8_passthru(&mut self, yes: bool) -> &mut DecodeReaderBytesBuilder
         ensures value { options_of result.now
             ≡ record (options_of self.old) { utf8_passthru = yes } }
@@ -162,8 +162,8 @@ impl DecodeReaderBytesBuilder {
     ///
     /// # Errors
     ///
-    /// `NoTable` exactly where `tables` lack an index that the named encoding needs; else `Memory` may
-    /// come. The source is handed back.
+    /// `NoTable` exactly where `tables` lack an index that the named encoding needs; else `Memory`
+    /// may come. The source is handed back.
     pub fn build<'t, S: Source>(
         &self,
         alloc: Global,
@@ -192,8 +192,9 @@ impl DecodeReaderBytesBuilder {
     ///
     /// # Errors
     ///
-    /// `NoTable` exactly where `tables` lack an index that the named encoding needs; else `TooSmall`
-    /// exactly where the buffer has fewer than four bytes. Source and buffer are handed back.
+    /// `NoTable` exactly where `tables` lack an index that the named encoding needs; else
+    /// `TooSmall` exactly where the buffer has fewer than four bytes. Source and buffer are handed
+    /// back.
     pub fn build_with_buffer<'t, S: Source>(
         &self,
         tables: &'t Tables,
@@ -201,7 +202,8 @@ impl DecodeReaderBytesBuilder {
         buffer: Vec<u8>,
     ) -> Result<DecodeReaderBytes<'t, S>, (S, Vec<u8>, BuildError)>
         ensures fresh { IfOk result (λ reader. standing_of reader ≡ fresh (options_of self.now)
-            (indexes_of tables.now) (vec_len buffer) (S.left source) (S.faults source) (S.calls source)) }
+            (indexes_of tables.now) (vec_len buffer) (S.left source) (S.faults source)
+            (S.calls source)) }
         ensures source { IfOk result (λ reader. source_of reader ≡ source) }
         ensures built { IfOk result (λ _.
             build_error (options_of self.now) (indexes_of tables.now) (vec_len buffer) ≡ None) }

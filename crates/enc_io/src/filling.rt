@@ -13,10 +13,12 @@ use crate::outside::{Failed, Source};
 /// A fault of the source, with how many bytes stand in `buf`.
 pub fn read_full<S: Source>(source: &mut S, buf: &mut [u8]) -> Result<usize, (usize, Failed)>
     ensures within { ReadsAtMost result buf.new }
-    ensures moved { IfOk result (λ n. Consumes (S.left source.old) (S.left source.new) (take n buf.new)) }
+    ensures moved { IfOk result (λ n. Consumes (S.left source.old) (S.left source.new)
+        (take n buf.new)) }
     ensures end { IfOk result (λ n. n < length buf.new → IsAtEnd (S.left source.new)) }
     ensures within_err { IfErr result (λ e. e.0 < length buf.new) }
-    ensures moved_err { IfErr result (λ e. Consumes (S.left source.old) (S.left source.new) (take e.0 buf.new)) }
+    ensures moved_err { IfErr result (λ e. Consumes (S.left source.old) (S.left source.new)
+        (take e.0 buf.new)) }
     ensures silent { IsNone (S.left source.old) → IsNone (S.left source.new) }
     ensures calls { IfOk result (λ n. S.calls source.new ≤ S.calls source.old + n + 1) }
     ensures calls_full { IfOk result (λ n.
@@ -38,7 +40,8 @@ pub fn read_full<S: Source>(source: &mut S, buf: &mut [u8]) -> Result<usize, (us
     Ok(count)
 }
 
-/// Moves the first of the bytes that wait to the front of `buf`, as many as wait and fit, and answers how many.
+// Moves the first of the bytes that wait to the front of `buf`, as many as wait and fit, and
+// answers how many.
 pub(crate) fn give(waiting: &[u8], buf: &mut [u8]) -> usize
     ensures count { result ≡ min (length buf.old) (length waiting.now) }
     ensures given { take result buf.new ≡ take result waiting.now }

@@ -21,23 +21,28 @@ use std::alloc::AllocError;
 /// What a fresh reader has still to give is the text of the stream.
 #[tactic(auto, using(crate::proofs::ReaderLemmas::still_fresh))]
 pub fn fresh_gives_all()
-    ensures { (options : Options) (indexes : Indexes) (buffer : ℕ) (left : Option (List ℕ)) (faults calls : ℕ) (rest : List ℕ)
-        → still (fresh options indexes buffer left faults calls) rest ≡ stream_text options indexes rest }
+    ensures { (options : Options) (indexes : Indexes) (buffer : ℕ) (left : Option (List ℕ))
+        (faults calls : ℕ) (rest : List ℕ)
+        → still (fresh options indexes buffer left faults calls) rest
+        ≡ stream_text options indexes rest }
 {}
 
-/// What reads of a fresh reader give in all is the text of the bytes that they took, whatever the lengths of their buffers and
-/// the faults between them.
+/// What reads of a fresh reader give in all is the text of the bytes that they took, whatever the
+/// lengths of their buffers and the faults between them.
 #[tactic(auto, using(crate::proofs::JoinedLemmas::joined_law))]
 pub fn joined_reads()
-    ensures { (options : Options) (indexes : Indexes) (buffer : ℕ) (left : Option (List ℕ)) (faults calls : ℕ) (last : ReaderStanding) (moved given : List ℕ)
-        → Joined (fresh options indexes buffer left faults calls) last moved given → HasGivenText last → given ≡ stream_text options indexes moved }
+    ensures { (options : Options) (indexes : Indexes) (buffer : ℕ) (left : Option (List ℕ))
+        (faults calls : ℕ) (last : ReaderStanding) (moved given : List ℕ)
+        → Joined (fresh options indexes buffer left faults calls) last moved given
+        → HasGivenText last → given ≡ stream_text options indexes moved }
 {}
 
-/// A reader that keeps little, as after a failed read of its source, has at most nine bytes to give where nothing more comes:
-/// the text of at most three.
+/// A reader that keeps little, as after a failed read of its source, has at most nine bytes to give
+/// where nothing more comes: the text of at most three.
 #[tactic(auto, using(crate::proofs::BoundLemmas::few_reader))]
 pub fn little_is_few<S: Source>(reader: &DecodeReaderBytes<'_, S>)
-    ensures { KeepsLittle (standing_of reader.now) → length (still (standing_of reader.now) []) ≤ 9 }
+    ensures { KeepsLittle (standing_of reader.now)
+        → length (still (standing_of reader.now) []) ≤ 9 }
 {}
 
 /// Two first bytes of streams are equal exactly where they are the same.

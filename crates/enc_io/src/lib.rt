@@ -1,5 +1,6 @@
-//! Sources of bytes: the trait that readers here stand on, a source in memory, and one over a reader
-//! of std; and readers of a stream that look for its byte order mark, or give its text in few bytes.
+//! Sources of bytes: the trait that readers here stand on, a source in memory, and one over a
+//! reader of std; and readers of a stream that look for its byte order mark, or give its text in
+//! few bytes.
 #![tactic(auto)]
 
 pub mod bom;

@@ -79,7 +79,8 @@ impl Source for MemorySource {
         ensures fails { IsErr result ↔ IsTrue (is_failing self.old.failing self.new.calls) }
         ensures calls { self.new.calls ≡ count_after self.old.calls }
         ensures faults { OnErr result (self.new.faults ≡ count_after self.old.faults) }
-        ensures amount { IfOk result (λ n. n ≡ min self.old.step (min (length buf.old) (length self.old.left))) }
+        ensures amount { IfOk result (λ n. n ≡ min self.old.step
+            (min (length buf.old) (length self.old.left))) }
         ensures given { IfOk result (λ n. buf.new ≡ take n self.old.left ++ drop n buf.old) }
         ensures rest { IfOk result (λ n. self.new.left ≡ drop n self.old.left) }
         ensures kept { OnErr result (self.new.left ≡ self.old.left) }

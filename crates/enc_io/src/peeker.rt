@@ -1,4 +1,5 @@
-//! A reader of a stream that shows its first bytes before they are read, and may leave out a byte order mark.
+//! A reader of a stream that shows its first bytes before they are read, and may leave out a byte
+//! order mark.
 ghost use Rattle.std.specs.Prelude.{◌≡◌, ℕ, ◌+◌, ◌<◌, ◌≤◌, [], ◌++◌, true, false, Ok, None, min, length, take, drop, IsOk, IsNone, IfOk, OnOk, OnErr};
 ghost use Rattle.std.specs.Option.{ForSome};
 ghost use Rattle.std.specs.Io.{ReadsAtMost};
@@ -11,7 +12,8 @@ use crate::bom::PossibleBom;
 use crate::filling::{give, read_full};
 use crate::outside::{Failed, Source};
 
-/// A reader of the bytes of a source, whose first three bytes can be looked at before they are read.
+/// A reader of the bytes of a source, whose first three bytes can be looked at before they are
+/// read.
 #[derive(Drop)]
 pub struct BomPeeker<S: Source> {
     source: S,
@@ -67,27 +69,37 @@ impl<S: Source> BomPeeker<S> {
     ///
     /// A fault of the source. What was gathered is kept, and the next call goes on from it.
     pub fn peek_bom(&mut self) -> Result<PossibleBom, Failed>
-        ensures moves { PeekerMoves (S.left (source_of self.old)) (S.left (source_of self.new)) (standing_of self.old) (standing_of self.new) [] }
-        ensures taken { Consumes (S.left (source_of self.old)) (S.left (source_of self.new)) (drop (length (standing_of self.old).gathered) (standing_of self.new).gathered) }
-        ensures kept { Keeps (still_known (standing_of self.old) (S.left (source_of self.old))) (still_known (standing_of self.new) (S.left (source_of self.new))) }
+        ensures moves { PeekerMoves (S.left (source_of self.old)) (S.left (source_of self.new))
+            (standing_of self.old) (standing_of self.new) [] }
+        ensures taken { Consumes (S.left (source_of self.old)) (S.left (source_of self.new))
+            (drop (length (standing_of self.old).gathered) (standing_of self.new).gathered) }
+        ensures kept { Keeps (still_known (standing_of self.old) (S.left (source_of self.old)))
+            (still_known (standing_of self.new) (S.left (source_of self.new))) }
         ensures peeked { OnOk result ((standing_of self.new).peeked ≡ true) }
         ensures bytes { IfOk result (λ bom. bom_bytes bom ≡ (standing_of self.new).gathered) }
         ensures whole { IfOk result (λ bom. (standing_of self.new).ended ≡ false → bom.len ≡ 3) }
         ensures three { OnOk result ((standing_of self.new).ended ≡ false
             → length (standing_of self.new).gathered ≡ 3) }
         ensures end { (standing_of self.new).ended ≡ true → IsAtEnd (S.left (source_of self.new)) }
-        ensures still_peeked { (standing_of self.old).peeked ≡ true → (standing_of self.new).peeked ≡ true }
-        ensures still_ended { (standing_of self.old).ended ≡ true → (standing_of self.new).ended ≡ true }
+        ensures still_peeked { (standing_of self.old).peeked ≡ true
+            → (standing_of self.new).peeked ≡ true }
+        ensures still_ended { (standing_of self.old).ended ≡ true
+            → (standing_of self.new).ended ≡ true }
         ensures not_ended { OnErr result ((standing_of self.new).ended ≡ false) }
         ensures calls { S.calls (source_of self.new) + length (standing_of self.old).gathered
             ≤ S.calls (source_of self.old) + length (standing_of self.new).gathered + 1 }
         ensures calls_whole { OnOk result ((standing_of self.new).ended ≡ false
             → S.calls (source_of self.new) + length (standing_of self.old).gathered
             ≤ S.calls (source_of self.old) + length (standing_of self.new).gathered) }
-        ensures again { (standing_of self.old).peeked ≡ true → IsOk result × (source_of self.new ≡ source_of self.old) × (standing_of self.new ≡ standing_of self.old) }
-        ensures silent { IsNone (S.left (source_of self.old)) → IsNone (S.left (source_of self.new)) }
-        ensures counted { OnOk result (S.faults (source_of self.new) ≡ S.faults (source_of self.old)) }
-        ensures failed { OnErr result (Rose (S.faults (source_of self.old)) (S.faults (source_of self.new))) }
+        ensures again { (standing_of self.old).peeked ≡ true → IsOk result
+            × (source_of self.new ≡ source_of self.old)
+            × (standing_of self.new ≡ standing_of self.old) }
+        ensures silent { IsNone (S.left (source_of self.old))
+            → IsNone (S.left (source_of self.new)) }
+        ensures counted { OnOk result (S.faults (source_of self.new)
+            ≡ S.faults (source_of self.old)) }
+        ensures failed { OnErr result (Rose (S.faults (source_of self.old))
+            (S.faults (source_of self.new))) }
         ensures never_falls { S.faults (source_of self.old) ≤ S.faults (source_of self.new) }
     {
         if self.peeked {
@@ -101,29 +113,41 @@ impl<S: Source> BomPeeker<S> {
 
     /// Moves the next bytes to the front of `buf`, and answers how many.
     ///
-    /// `Ok(0)` for a nonempty `buf` comes only where all is given. An empty `buf` makes no call on the source, and once the
-    /// source has ended it isn't called again.
+    /// `Ok(0)` for a nonempty `buf` comes only where all is given. An empty `buf` makes no call on
+    /// the source, and once the source has ended it isn't called again.
     ///
     /// # Errors
     ///
     /// A fault of the source. It gives nothing, and what was gathered for the mark is kept.
     pub fn read(&mut self, buf: &mut [u8]) -> Result<usize, Failed>
         ensures within { ReadsAtMost result buf.new }
-        ensures moves { PeekerMoves (S.left (source_of self.old)) (S.left (source_of self.new)) (standing_of self.old) (standing_of self.new) (given_by result buf.new) }
-        ensures moved { ReadConsumes (still_known (standing_of self.old) (S.left (source_of self.old))) (still_known (standing_of self.new) (S.left (source_of self.new))) result buf.new }
-        ensures all { IfOk result (λ n. n ≡ 0 → 0 < length buf.new → HasGivenAll (standing_of self.new)) }
+        ensures moves { PeekerMoves (S.left (source_of self.old)) (S.left (source_of self.new))
+            (standing_of self.old) (standing_of self.new) (given_by result buf.new) }
+        ensures moved { ReadConsumes (still_known (standing_of self.old)
+            (S.left (source_of self.old))) (still_known (standing_of self.new)
+            (S.left (source_of self.new))) result buf.new }
+        ensures all { IfOk result (λ n. n ≡ 0 → 0 < length buf.new
+            → HasGivenAll (standing_of self.new)) }
         ensures end { (standing_of self.new).ended ≡ true → IsAtEnd (S.left (source_of self.new)) }
-        ensures still_peeked { (standing_of self.old).peeked ≡ true → (standing_of self.new).peeked ≡ true }
-        ensures still_ended { (standing_of self.old).ended ≡ true → (standing_of self.new).ended ≡ true }
+        ensures still_peeked { (standing_of self.old).peeked ≡ true
+            → (standing_of self.new).peeked ≡ true }
+        ensures still_ended { (standing_of self.old).ended ≡ true
+            → (standing_of self.new).ended ≡ true }
         ensures not_ended { OnErr result ((standing_of self.new).ended ≡ false) }
         ensures calls { S.calls (source_of self.new) + length (standing_of self.old).gathered
             ≤ S.calls (source_of self.old) + length (standing_of self.new).gathered
             + length (given_by result buf.new) + 1 }
-        ensures no_room { length buf.old ≡ 0 → (result ≡ Ok 0) × (source_of self.new ≡ source_of self.old) × (standing_of self.new ≡ standing_of self.old) }
-        ensures after_end { (standing_of self.old).ended ≡ true → source_of self.new ≡ source_of self.old }
-        ensures silent { IsNone (S.left (source_of self.old)) → IsNone (S.left (source_of self.new)) }
-        ensures counted { OnOk result (S.faults (source_of self.new) ≡ S.faults (source_of self.old)) }
-        ensures failed { OnErr result (Rose (S.faults (source_of self.old)) (S.faults (source_of self.new))) }
+        ensures no_room { length buf.old ≡ 0 → (result ≡ Ok 0)
+            × (source_of self.new ≡ source_of self.old)
+            × (standing_of self.new ≡ standing_of self.old) }
+        ensures after_end { (standing_of self.old).ended ≡ true
+            → source_of self.new ≡ source_of self.old }
+        ensures silent { IsNone (S.left (source_of self.old))
+            → IsNone (S.left (source_of self.new)) }
+        ensures counted { OnOk result (S.faults (source_of self.new)
+            ≡ S.faults (source_of self.old)) }
+        ensures failed { OnErr result (Rose (S.faults (source_of self.old))
+            (S.faults (source_of self.new))) }
         ensures never_falls { S.faults (source_of self.old) ≤ S.faults (source_of self.new) }
     {
         if buf.is_empty() {
@@ -178,9 +202,12 @@ impl<S: Source> BomPeeker<S> {
     pub(crate) fn gather(&mut self, most: usize) -> Result<(), Failed>
         requires unpeeked { (standing_of self.old).peeked ≡ false }
         requires most { length (standing_of self.old).gathered ≤ most }
-        ensures moves { PeekerMoves (S.left (source_of self.old)) (S.left (source_of self.new)) (standing_of self.old) (standing_of self.new) [] }
-        ensures taken { Consumes (S.left (source_of self.old)) (S.left (source_of self.new)) (drop (length (standing_of self.old).gathered) (standing_of self.new).gathered) }
-        ensures gathers { Gathers (S.left (source_of self.old)) (S.left (source_of self.new)) (standing_of self.old) (standing_of self.new) }
+        ensures moves { PeekerMoves (S.left (source_of self.old)) (S.left (source_of self.new))
+            (standing_of self.old) (standing_of self.new) [] }
+        ensures taken { Consumes (S.left (source_of self.old)) (S.left (source_of self.new))
+            (drop (length (standing_of self.old).gathered) (standing_of self.new).gathered) }
+        ensures gathers { Gathers (S.left (source_of self.old)) (S.left (source_of self.new))
+            (standing_of self.old) (standing_of self.new) }
         ensures most { length (standing_of self.new).gathered ≤ most }
         ensures peeked { OnOk result ((standing_of self.new).peeked ≡ false
             → (length (standing_of self.new).gathered ≡ most) × (most < 3)) }
@@ -194,9 +221,12 @@ impl<S: Source> BomPeeker<S> {
         ensures calls_full { OnOk result ((standing_of self.new).ended ≡ false
             → S.calls (source_of self.new) + length (standing_of self.old).gathered
             ≤ S.calls (source_of self.old) + length (standing_of self.new).gathered) }
-        ensures silent { IsNone (S.left (source_of self.old)) → IsNone (S.left (source_of self.new)) }
-        ensures counted { OnOk result (S.faults (source_of self.new) ≡ S.faults (source_of self.old)) }
-        ensures failed { OnErr result (Rose (S.faults (source_of self.old)) (S.faults (source_of self.new))) }
+        ensures silent { IsNone (S.left (source_of self.old))
+            → IsNone (S.left (source_of self.new)) }
+        ensures counted { OnOk result (S.faults (source_of self.new)
+            ≡ S.faults (source_of self.old)) }
+        ensures failed { OnErr result (Rose (S.faults (source_of self.old))
+            (S.faults (source_of self.new))) }
         ensures never_falls { S.faults (source_of self.old) ≤ S.faults (source_of self.new) }
     {
         let mut part = [0; 3];
@@ -224,8 +254,10 @@ impl<S: Source> BomPeeker<S> {
         requires { (standing_of self.old).peeked ≡ true }
         ensures count { result ≡ min (length buf.old) (length (standing_of self.old).waiting) }
         ensures within { result ≤ length buf.new }
-        ensures given { (standing_of self.old).waiting ≡ take result buf.new ++ (standing_of self.new).waiting }
-        ensures standing { standing_of self.new ≡ record (standing_of self.old) { waiting = (standing_of self.new).waiting } }
+        ensures given { (standing_of self.old).waiting
+            ≡ take result buf.new ++ (standing_of self.new).waiting }
+        ensures standing { standing_of self.new ≡ record (standing_of self.old)
+            { waiting = (standing_of self.new).waiting } }
         ensures source { source_of self.new ≡ source_of self.old }
     {
         let count = give(&self.bom.bytes[self.place..self.bom.len], buf);
@@ -233,8 +265,8 @@ impl<S: Source> BomPeeker<S> {
         count
     }
 
-    // Moves the next bytes to the front of `buf`: gathered ones, or at most `most` of the source. Answers how many, and how
-    // many of them the source gave.
+    // Moves the next bytes to the front of `buf`: gathered ones, or at most `most` of the source.
+    // Answers how many, and how many of them the source gave.
     pub(crate) fn read_within(
         &mut self,
         buf: &mut [u8],
@@ -246,21 +278,30 @@ impl<S: Source> BomPeeker<S> {
         ensures within { IfOk result (λ n. n.0 ≤ length buf.new) }
         ensures len { length buf.new ≡ length buf.old }
         ensures are_bytes { AreBytes buf.new }
-        ensures next { GivesNext (S.left (source_of self.old)) (S.left (source_of self.new)) (standing_of self.old) (standing_of self.new) (given_within result buf.new) (taken_by result) }
+        ensures next { GivesNext (S.left (source_of self.old)) (S.left (source_of self.new))
+            (standing_of self.old) (standing_of self.new) (given_within result buf.new)
+            (taken_by result) }
         ensures most { IfOk result (λ n. (n.1 ≤ most) × (n.1 ≤ n.0)) }
         ensures all { IfOk result (λ n. n.0 ≡ 0 → HasGivenAll (standing_of self.new)) }
         ensures none_waits { OnErr result ((standing_of self.new).waiting ≡ []) }
-        ensures three { (standing_of self.old).ended ≡ false → length (standing_of self.old).gathered ≡ 3 }
+        ensures three { (standing_of self.old).ended ≡ false
+            → length (standing_of self.old).gathered ≡ 3 }
         ensures still_peeked { (standing_of self.new).peeked ≡ true }
-        ensures still_ended { (standing_of self.old).ended ≡ true → (standing_of self.new).ended ≡ true }
+        ensures still_ended { (standing_of self.old).ended ≡ true
+            → (standing_of self.new).ended ≡ true }
         ensures not_ended { OnErr result ((standing_of self.new).ended ≡ false) }
-        ensures after_end { (standing_of self.old).ended ≡ true → source_of self.new ≡ source_of self.old }
-        ensures calls { S.calls (source_of self.new) ≤ S.calls (source_of self.old) + taken_by result + 1 }
+        ensures after_end { (standing_of self.old).ended ≡ true
+            → source_of self.new ≡ source_of self.old }
+        ensures calls { S.calls (source_of self.new)
+            ≤ S.calls (source_of self.old) + taken_by result + 1 }
         ensures calls_on { OnOk result ((standing_of self.new).ended ≡ false
             → S.calls (source_of self.new) ≤ S.calls (source_of self.old) + taken_by result) }
-        ensures silent { IsNone (S.left (source_of self.old)) → IsNone (S.left (source_of self.new)) }
-        ensures counted { OnOk result (S.faults (source_of self.new) ≡ S.faults (source_of self.old)) }
-        ensures failed { OnErr result (Rose (S.faults (source_of self.old)) (S.faults (source_of self.new))) }
+        ensures silent { IsNone (S.left (source_of self.old))
+            → IsNone (S.left (source_of self.new)) }
+        ensures counted { OnOk result (S.faults (source_of self.new)
+            ≡ S.faults (source_of self.old)) }
+        ensures failed { OnErr result (Rose (S.faults (source_of self.old))
+            (S.faults (source_of self.new))) }
         ensures never_falls { S.faults (source_of self.old) ≤ S.faults (source_of self.new) }
     {
         if self.waits() {
@@ -291,16 +332,21 @@ impl<S: Source> BomPeeker<S> {
         requires not_ended { (standing_of self.old).ended ≡ false }
         requires room { 0 < length buf.old }
         ensures within { ReadsAtMost result buf.new }
-        ensures next { GivesNext (S.left (source_of self.old)) (S.left (source_of self.new)) (standing_of self.old) (standing_of self.new) (given_by result buf.new) (count_by result) }
+        ensures next { GivesNext (S.left (source_of self.old)) (S.left (source_of self.new))
+            (standing_of self.old) (standing_of self.new) (given_by result buf.new)
+            (count_by result) }
         ensures all { IfOk result (λ n. n ≡ 0 → HasGivenAll (standing_of self.new)) }
         ensures some { IfOk result (λ n. (standing_of self.new).ended ≡ false → 0 < n) }
         ensures none_waits { (standing_of self.new).waiting ≡ [] }
         ensures still_peeked { (standing_of self.new).peeked ≡ true }
         ensures not_ended { OnErr result ((standing_of self.new).ended ≡ false) }
         ensures calls { S.calls (source_of self.new) ≤ S.calls (source_of self.old) + 1 }
-        ensures silent { IsNone (S.left (source_of self.old)) → IsNone (S.left (source_of self.new)) }
-        ensures counted { OnOk result (S.faults (source_of self.new) ≡ S.faults (source_of self.old)) }
-        ensures failed { OnErr result (Rose (S.faults (source_of self.old)) (S.faults (source_of self.new))) }
+        ensures silent { IsNone (S.left (source_of self.old))
+            → IsNone (S.left (source_of self.new)) }
+        ensures counted { OnOk result (S.faults (source_of self.new)
+            ≡ S.faults (source_of self.old)) }
+        ensures failed { OnErr result (Rose (S.faults (source_of self.old))
+            (S.faults (source_of self.new))) }
         ensures never_falls { S.faults (source_of self.old) ≤ S.faults (source_of self.new) }
     {
         match self.source.read(buf) {

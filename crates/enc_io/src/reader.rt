@@ -32,7 +32,8 @@ use std::fmt;
 /// Why a [`DecodeReaderBytes`] gave nothing.
 #[derive(Clone, Copy, Debug, PartialEq, Eq)]
 pub enum ReadError {
-    /// A read of the source failed. The reader stands where it stood, with all bytes that it has, and may be read on.
+    /// A read of the source failed. The reader stands where it stood, with all bytes that it has,
+    /// and may be read on.
     ReadFault,
     /// The source gave more bytes than the limit. Each later read answers this too.
     TooMuch,
@@ -49,8 +50,9 @@ impl fmt::Display for ReadError {
 
 impl Error for ReadError {}
 
-/// A reader of the text of a stream, as UTF-8: of the bytes that a source gives, by the encoding that the builder and a byte
-/// order mark at the front choose, with U+FFFD for each malformed unit; or of the bytes as they are, where none is chosen.
+/// A reader of the text of a stream, as UTF-8: of the bytes that a source gives, by the encoding
+/// that the builder and a byte order mark at the front choose, with U+FFFD for each malformed unit;
+/// or of the bytes as they are, where none is chosen.
 #[derive(Drop)]
 pub struct DecodeReaderBytes<'t, S: Source> {
     tables: &'t Tables,
@@ -74,13 +76,15 @@ pub struct DecodeReaderBytes<'t, S: Source> {
     ghost is_none: { has_detected ≡ false → is_some decoder ≡ false },
     ghost none_taken: { has_detected ≡ false → taken ≡ length (bom_bytes rdr.bom) },
     ghost front: { has_detected ≡ false → rdr.peeked ≡ true → FrontWaits (peeker_standing rdr) },
-    ghost passes: { is_some decoder ≡ false → (waiting_of tiny ≡ []) × (drop pos (take buflen buf.items) ≡ []) },
-    ghost decodes: { has_detected ≡ true → chosen (options_of options) (bom_bytes rdr.bom) ≡ None → is_some decoder ≡ false },
+    ghost passes: { is_some decoder ≡ false → (waiting_of tiny ≡ [])
+        × (drop pos (take buflen buf.items) ≡ []) },
+    ghost decodes: { has_detected ≡ true → chosen (options_of options) (bom_bytes rdr.bom) ≡ None
+        → is_some decoder ≡ false },
     ghost end: { ForSome decoder (λ d. (decoder_standing d).finished ≡ true → rdr.ended ≡ true) },
 }
 
-// Decodes a piece to the front of `buf`, through seven bytes where that has room for fewer than four. Answers how many bytes
-// were read and how many were written.
+// Decodes a piece to the front of `buf`, through seven bytes where that has room for fewer than
+// four. Answers how many bytes were read and how many were written.
 fn decode_piece(
     decoder: &mut Decoder,
     tiny: &mut TinyTranscoder,
@@ -94,7 +98,8 @@ fn decode_piece(
     ensures read { result.0 ≤ length src.now }
     ensures written { result.1 ≤ length buf.new }
     ensures len { length buf.new ≡ length buf.old }
-    ensures piece { DecodesPiece last (decoder_standing decoder.old) (decoder_standing decoder.new) src.now result.0
+    ensures piece { DecodesPiece last (decoder_standing decoder.old) (decoder_standing decoder.new)
+        src.now result.0
         (take result.1 buf.new) (waiting_of tiny.new) }
 {
     if buf.len() < 4 {
@@ -156,24 +161,30 @@ impl<'t, S: Source> DecodeReaderBytes<'t, S> {
         }
     }
 
-    /// Moves the next bytes of the text to the front of `buf`, and answers how many; bytes of `buf` behind them are free to
-    /// change. `Ok(0)` for a nonempty `buf` comes only where the source has ended and all is given. An empty `buf` makes no
-    /// call on the source, and once the source has ended it isn't called again.
+    /// Moves the next bytes of the text to the front of `buf`, and answers how many; bytes of `buf`
+    /// behind them are free to change. `Ok(0)` for a nonempty `buf` comes only where the source has
+    /// ended and all is given. An empty `buf` makes no call on the source, and once the source has
+    /// ended it isn't called again.
     ///
     /// # Errors
     ///
-    /// `ReadFault` where a read of the source failed: nothing is lost, and the next read goes on. `TooMuch` where the source
-    /// gave more bytes than the limit, then and from then on.
+    /// `ReadFault` where a read of the source failed: nothing is lost, and the next read goes on.
+    /// `TooMuch` where the source gave more bytes than the limit, then and from then on.
     pub fn read(&mut self, buf: &mut [u8]) -> Result<usize, ReadError>
         ensures within { ReadsAtMost result buf.new }
         ensures len { length buf.new ≡ length buf.old }
-        ensures does { 0 < length buf.old → Does (standing_of self.old) (standing_of self.new) (given_by result buf.new) result }
+        ensures does { 0 < length buf.old → Does (standing_of self.old) (standing_of self.new)
+            (given_by result buf.new) result }
         ensures end { 0 < length buf.old → result ≡ Ok 0 → HasGivenText (standing_of self.new) }
-        ensures left { has_seen_end (standing_of self.new) ≡ true → IsAtEnd (S.left (source_of self.new)) }
+        ensures left { has_seen_end (standing_of self.new) ≡ true
+            → IsAtEnd (S.left (source_of self.new)) }
         ensures small { length (still (standing_of self.new) [])
             ≤ 3 * ((standing_of self.new).buffer + 10) }
-        ensures latched { 0 < length buf.old → HasTooMuch (standing_of self.old) → (result ≡ Err ReadError.TooMuch) × (standing_of self.new ≡ standing_of self.old) }
-        ensures no_room { length buf.old ≡ 0 → (result ≡ Ok 0) × (source_of self.new ≡ source_of self.old) × (standing_of self.new ≡ standing_of self.old) }
+        ensures latched { 0 < length buf.old → HasTooMuch (standing_of self.old)
+            → (result ≡ Err ReadError.TooMuch) × (standing_of self.new ≡ standing_of self.old) }
+        ensures no_room { length buf.old ≡ 0 → (result ≡ Ok 0)
+            × (source_of self.new ≡ source_of self.old)
+            × (standing_of self.new ≡ standing_of self.old) }
     {
         if buf.is_empty() {
             return Ok(0);
@@ -257,7 +268,8 @@ impl<'t, S: Source> DecodeReaderBytes<'t, S> {
         requires room { 0 < length buf.old }
         ensures within { ReadsAtMost result buf.new }
         ensures len { length buf.new ≡ length buf.old }
-        ensures does { Does (standing_of self.old) (standing_of self.new) (given_by result buf.new) result }
+        ensures does { Does (standing_of self.old) (standing_of self.new) (given_by result buf.new)
+            result }
         ensures end { result ≡ Ok 0 → HasGivenText (standing_of self.new) }
     {
         match self
@@ -282,7 +294,9 @@ impl<'t, S: Source> DecodeReaderBytes<'t, S> {
         requires some { is_some (standing_of self.old).decoder ≡ true }
         requires undecided { KeepsUndecided (standing_of self.old) }
         ensures does { Does (standing_of self.old) (standing_of self.new) [] result }
-        ensures same { ((standing_of self.new).detected ≡ true) × ((standing_of self.new).decoder ≡ (standing_of self.old).decoder) × ((standing_of self.new).tiny ≡ []) }
+        ensures same { ((standing_of self.new).detected ≡ true)
+            × ((standing_of self.new).decoder ≡ (standing_of self.old).decoder)
+            × ((standing_of self.new).tiny ≡ []) }
         ensures turns { OnOk result (turns (standing_of self.new) ≤ turns (standing_of self.old)) }
         ensures falls { OnOk result ((HasGivenAll (standing_of self.old).peeker → ⊥)
             → turns (standing_of self.new) < turns (standing_of self.old)) }
@@ -305,7 +319,8 @@ impl<'t, S: Source> DecodeReaderBytes<'t, S> {
         }
     }
 
-    // Decodes what is buffered to the front of `buf`; with `last`, what is held, since nothing follows.
+    // Decodes what is buffered to the front of `buf`; with `last`, what is held, since nothing
+    // follows.
     fn decode_into(&mut self, buf: &mut [u8], last: bool) -> usize
         requires detected { (standing_of self.old).detected ≡ true }
         requires within { (standing_of self.old).taken ≤ (standing_of self.old).options.limit }
@@ -313,7 +328,8 @@ impl<'t, S: Source> DecodeReaderBytes<'t, S> {
         requires unfinished { ForSome (standing_of self.old).decoder (λ d. d.finished ≡ false) }
         requires some { is_some (standing_of self.old).decoder ≡ true }
         requires room { 0 < length buf.old }
-        requires end { last ≡ true → HasGivenAll (standing_of self.old).peeker × ((standing_of self.old).buffered ≡ []) }
+        requires end { last ≡ true → HasGivenAll (standing_of self.old).peeker
+            × ((standing_of self.old).buffered ≡ []) }
         ensures written { result ≤ length buf.new }
         ensures len { length buf.new ≡ length buf.old }
         ensures goes_on { GoesOn (standing_of self.old) (standing_of self.new) (take result buf.new) }
@@ -325,7 +341,8 @@ impl<'t, S: Source> DecodeReaderBytes<'t, S> {
           buffered = (standing_of self.new).buffered;
         } }
         ensures some { is_some (standing_of self.new).decoder ≡ true }
-        ensures unfinished { result ≡ 0 → last ≡ false → ForSome (standing_of self.new).decoder (λ d. d.finished ≡ false) }
+        ensures unfinished { result ≡ 0 → last ≡ false
+            → ForSome (standing_of self.new).decoder (λ d. d.finished ≡ false) }
     {
         let Some(decoder) = &mut self.decoder else {
             return 0;
@@ -341,8 +358,10 @@ impl<'t, S: Source> DecodeReaderBytes<'t, S> {
         requires detected { (standing_of self.now).detected ≡ true }
         requires some { is_some (standing_of self.now).decoder ≡ true }
         ensures yes { result ≡ true → has_seen_end (standing_of self.now) ≡ true }
-        ensures nothing { result ≡ true → (standing_of self.now).tiny ≡ [] → still (standing_of self.now) [] ≡ [] }
-        ensures no { result ≡ false → ForSome (standing_of self.now).decoder (λ d. d.finished ≡ false) }
+        ensures nothing { result ≡ true → (standing_of self.now).tiny ≡ []
+            → still (standing_of self.now) [] ≡ [] }
+        ensures no { result ≡ false → ForSome (standing_of self.now).decoder
+            (λ d. d.finished ≡ false) }
     {
         match &self.decoder {
             Some(decoder) => decoder.is_finished(),
@@ -360,7 +379,8 @@ impl<'t, S: Source> DecodeReaderBytes<'t, S> {
         ensures len { length buf.new ≡ length buf.old }
         ensures goes_on { GoesOn (standing_of self.old) (standing_of self.new) (take result buf.new) }
         ensures none { result ≡ 0 → (standing_of self.new).tiny ≡ [] }
-        ensures same { standing_of self.new ≡ record (standing_of self.old) { tiny = (standing_of self.new).tiny } }
+        ensures same { standing_of self.new ≡ record (standing_of self.old)
+            { tiny = (standing_of self.new).tiny } }
     {
         self.tiny.read(buf)
     }
@@ -373,7 +393,8 @@ impl<'t, S: Source> DecodeReaderBytes<'t, S> {
         requires room { 0 < length buf.old }
         ensures within { ReadsAtMost result buf.new }
         ensures len { length buf.new ≡ length buf.old }
-        ensures does { Does (standing_of self.old) (standing_of self.new) (given_by result buf.new) result }
+        ensures does { Does (standing_of self.old) (standing_of self.new) (given_by result buf.new)
+            result }
         ensures end { result ≡ Ok 0 → HasGivenText (standing_of self.new) }
     {
         let count = self.give_waiting(buf);
@@ -400,8 +421,10 @@ impl<'t, S: Source> DecodeReaderBytes<'t, S> {
 
     // Whether the source has ended, and all that it gave is decoded or held.
     fn is_at_end(&self) -> bool
-        ensures yes { result ≡ true → HasGivenAll (standing_of self.now).peeker × ((standing_of self.now).buffered ≡ []) }
-        ensures no { result ≡ false → (standing_of self.now).buffered ≡ [] → HasGivenAll (standing_of self.now).peeker → ⊥ }
+        ensures yes { result ≡ true → HasGivenAll (standing_of self.now).peeker
+            × ((standing_of self.now).buffered ≡ []) }
+        ensures no { result ≡ false → (standing_of self.now).buffered ≡ []
+            → HasGivenAll (standing_of self.now).peeker → ⊥ }
     {
         if self.pos < self.buflen {
             return false;

@@ -5,7 +5,8 @@ use std::alloc::{AllocError, Global};
 use std::process::Abort;
 use std::test::Fail;
 
-// A source that gives two of these bytes, again and again, behind each end too; it counts its calls.
+// A source that gives two of these bytes, again and again, behind each end too; it counts its
+// calls.
 #[derive(Drop)]
 struct Again {
     calls: u64,
@@ -52,8 +53,8 @@ fn read_all<S: Source>(
     Err("no end")?
 }
 
-// A builder with the encoding of this label, if any, and these options: p for the pass-through of UTF-8, s for marks that are
-// stripped, o for marks that override, n for no sniffing.
+// A builder with the encoding of this label, if any, and these options: p for the pass-through of
+// UTF-8, s for marks that are stripped, o for marks that override, n for no sniffing.
 fn builder(label: &str, options: &str) -> DecodeReaderBytesBuilder {
     let options = options.as_bytes();
     let mut builder = DecodeReaderBytesBuilder::new();
