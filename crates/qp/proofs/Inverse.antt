@@ -269,7 +269,7 @@ kept-all (b ∷ text) h =
     let both = or_parts (not (is_text_octet b)) (list_any (λ b. not (is_text_octet b)) text) h in
     rw (not-false (is_text_octet b) both.0) (ap (λ t. b ∷ t) (kept-all text both.1))
 
-joined-value_of : (ls : List (List ℕ)) → joined ls ≡ value_of (map trimmed ls)
+pub joined-value_of : (ls : List (List ℕ)) → joined ls ≡ value_of (map trimmed ls)
 unfolding joined value_of line_value is_soft
 joined-value_of [] = refl
 joined-value_of (line ∷ []) = refl

@@ -1,12 +1,12 @@
 -- The items of an input, and one item laid out after another.
-use Rattle.std.proofs.Common.{◌≡◌, ℕ, zero, suc, ◌+◌, ◌-◌, ◌<◌, ◌≤◌, Bool, true, false, cond, not, ◌&&◌, eqb, nat_lt, List, [], ◌∷◌, ◌++◌, map, length, take, drop, refl, ap, sym, ◌∙◌, arith}
+use Rattle.std.proofs.Common.{◌≡◌, ℕ, zero, suc, ◌+◌, ◌-◌, ◌<◌, ◌≤◌, ◌/◌, ◌%◌, get_or, Bool, true, false, cond, not, ◌&&◌, eqb, nat_lt, List, [], ◌∷◌, ◌++◌, map, length, take, drop, refl, ap, ap₂, sym, ◌∙◌, subst, arith}
 use Rattle.std.specs.List.{list_all}
 use Rattle.std.proofs.lemmas.Bool.{true≢false, false≢true, and_parts, le-ltb, eqb-true, ne_eqb, or_from, and_left, and_right}
 use Rattle.std.proofs.lemmas.Bool.Decides.{nat_tests}
-use Rattle.std.proofs.lemmas.List.{append_assoc, take-append-drop, length-take-le}
+use Rattle.std.proofs.lemmas.List.{append_assoc, append-nil, take-append-drop, length-take-le}
 use Rattle.qp.specs.declared.InputMode.{InputMode}
 use Rattle.qp.specs.declared.InputMode.TheVariants.{Text, Binary}
-use Rattle.qp.specs.Items.{Item, hard_break, plain, escaped, item_text, is_blank, ends_blank, may_stand_within, begins_break, ends_line, octet_item, keeps_breaks, pair_items, items}
+use Rattle.qp.specs.Items.{Item, hard_break, plain, escaped, item_text, hex_digit, is_blank, ends_blank, may_stand_within, begins_break, ends_line, octet_item, keeps_breaks, pair_items, items, entry_text, octet_entry}
 use Rattle.qp.specs.Layout.{is_hard_break, goes_on, width, breaks_before, soft_break, laid_out_from}
 
 -- The items of an input.
@@ -196,6 +196,42 @@ octet-stands b rest h = rw h refl
 pub octet-escaped : (b : ℕ) (rest : List ℕ) → (may_stand_within b && not (is_blank b && ends_line rest)) ≡ false → octet_item b rest ≡ escaped b
 octet-escaped b rest h = rw h refl
 
+-- an octet at the end of a line of the input, and elsewhere
+pub within-ends : (b : ℕ) (rest : List ℕ) → ends_line rest ≡ true → (may_stand_within b && not (is_blank b && ends_line rest)) ≡ (may_stand_within b && not (is_blank b))
+within-ends b rest e = ap (λ t. may_stand_within b && not (is_blank b && t)) e ∙ ap (λ t. may_stand_within b && not t) (by_blank (is_blank b))
+  where
+    by_blank : (t : Bool) → (t && true) ≡ t
+    by_blank true = refl
+    by_blank false = refl
+
+pub within-goes : (b : ℕ) (rest : List ℕ) → ends_line rest ≡ false → (may_stand_within b && not (is_blank b && ends_line rest)) ≡ may_stand_within b
+within-goes b rest e = ap (λ t. may_stand_within b && not t) (and_right (is_blank b) (ends_line rest) e) ∙ by_stands (may_stand_within b)
+  where
+    by_stands : (t : Bool) → (t && true) ≡ t
+    by_stands true = refl
+    by_stands false = refl
+
+-- An entry that is written as `breaks_before` says.
+module _ (limit used now : ℕ) (more : Bool) (list : List Item) (out new : List ℕ) (goes : goes_on list ≡ more) where
+  abbrev Written : List ℕ → Type 0
+  Written entry = (breaks_before limit used (get_or entry 3 0) more ≡ true → (new ≡ out ++ soft_break ++ entry_text entry) × (now ≡ get_or entry 3 0))
+      × (breaks_before limit used (get_or entry 3 0) more ≡ false → (new ≡ out ++ entry_text entry) × (now ≡ used + get_or entry 3 0))
+
+  abbrev Stands : Item → Type 0
+  Stands item = new ++ laid_out_from limit now list ≡ out ++ laid_out_from limit used (item ∷ list)
+
+  written-plain : (b u v : ℕ) → Written (b ∷ u ∷ v ∷ 1 ∷ []) → Stands (plain b)
+  written-plain b u v w = placed limit used now (plain b) (b ∷ []) more list out new refl refl goes w.0 w.1
+
+  written-escaped : (b : ℕ) → Written (61 ∷ hex_digit (b / 16) ∷ hex_digit (b % 16) ∷ 3 ∷ []) → Stands (escaped b)
+  written-escaped b w = placed limit used now (escaped b) (61 ∷ hex_digit (b / 16) ∷ hex_digit (b % 16) ∷ []) more list out new refl refl goes w.0 w.1
+
+  pub placed-entry : (b : ℕ) (rest entry : List ℕ) (stands : Bool) → entry ≡ octet_entry stands b → (may_stand_within b && not (is_blank b && ends_line rest)) ≡ stands
+      → Written entry → Stands (octet_item b rest)
+  placed-entry b rest entry true e is w =
+      subst Stands (sym (octet-stands b rest is)) (written-plain b (hex_digit (b / 16)) (hex_digit (b % 16)) (subst Written e w))
+  placed-entry b rest entry false e is w = subst Stands (sym (octet-escaped b rest is)) (written-escaped b (subst Written e w))
+
 -- One turn of the encoder: `out` is what it has, `text` what is left of its input.
 pub turn-run : (mode : InputMode) (limit used run : ℕ) (out text total : List ℕ) → run ≤ length text → used + run < limit
     → items mode text ≡ map plain (take run text) ++ items mode (drop run text)
@@ -227,3 +263,15 @@ pub turn-octet : (mode : InputMode) (limit used now b : ℕ) (out new text rest 
     → new ++ laid_out_from limit now (items mode rest) ≡ total
 turn-octet mode limit used now b out new text rest total e k f h =
     f ∙ ap (λ t. out ++ t) (sym (ap (λ t. laid_out_from limit used (items mode t)) e ∙ ap (laid_out_from limit used) (items-single mode b rest (rw e at k)))) ∙ h
+
+-- The same for a run that may be empty, of which `rest` is left.
+pub turn-front : (mode : InputMode) (limit used run : ℕ) (out new text rest : List ℕ) → used ≤ limit → run ≤ length text → run ≤ limit - used - 1
+    → new ≡ out ++ take run text → items mode text ≡ map plain (take run text) ++ items mode (drop run text) → rest ≡ drop run text
+    → new ++ laid_out_from limit (used + run) (items mode rest) ≡ out ++ laid_out_from limit used (items mode text)
+turn-front mode limit used run out new text rest fits within below is e r =
+    ap₂ (λ n t. n ++ laid_out_from limit (used + run) (items mode t)) is r ∙ by_run run within below e
+  where
+    by_run : (k : ℕ) → k ≤ length text → k ≤ limit - used - 1 → items mode text ≡ map plain (take k text) ++ items mode (drop k text)
+        → (out ++ take k text) ++ laid_out_from limit (used + k) (items mode (drop k text)) ≡ out ++ laid_out_from limit used (items mode text)
+    by_run zero h b i = ap₂ (λ o n. o ++ laid_out_from limit n (items mode text)) (append-nil out) (let sums : used + 0 ≡ used = omega arith in sums)
+    by_run (suc k) h b i = turn-run mode limit used (suc k) out text _ h (omega arith) i refl

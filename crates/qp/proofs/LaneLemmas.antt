@@ -8,6 +8,7 @@ use Rattle.std.proofs.lemmas.List.{length-map, take-take, length-take-le, get_or
 use Rattle.std.proofs.lemmas.List.Sums.{list_all-from_AllPass, prefix_len-le-length, prefix_len_passes}
 use Rattle.std.proofs.lemmas.List.Elements.{All-from_get_or}
 use Rattle.std.specs.List.{prefix_len, list_all}
+use Rattle.qp.specs.Items.{entry_text}
 use lib.Count.{count_trailing_zeros}
 use lib.Lanes.{chunk, put_chunk, zip2, mask_l, top}
 
@@ -72,17 +73,31 @@ pub cut_back : (old text : List ℕ) (len k : ℕ) → len ≤ 16 → k ≡ leng
 cut_back old text len k few e =
     ap (λ n. take n (old ++ take 16 text)) e ∙ take-append-add old (take 16 text) len ∙ ap (λ t. old ++ t) (take-take len 16 text few)
 
--- sixteen bytes are written, of which `run` count
-pub stored_run : (room text : List ℕ) (at run : ℕ) → at + 16 ≤ length room → 16 ≤ length text → run ≤ 16 → take (at + run) (put_chunk at room (take 16 text)) ≡ take at room ++ take run text
-stored_run room text at run wide long few =
-    let bytes : List ℕ = take 16 text in
-    let whole : length bytes ≡ 16 = length-take-le 16 text long in
+-- bytes are written, of which `run` count
+pub stored : (room bytes : List ℕ) (at run : ℕ) → at + length bytes ≤ length room → run ≤ length bytes → take (at + run) (put_chunk at room bytes) ≡ take at room ++ take run bytes
+stored room bytes at run wide few =
     let front = length-take-le at room (omega arith) in
     let rest = bytes ++ drop (length bytes) (drop at room) in
-    ap (take (at + run)) (put_chunk_is at room bytes (omega (arith, whole)))
+    ap (take (at + run)) (put_chunk_is at room bytes wide)
     ∙ take-add at run (take at room ++ rest)
     ∙ ap₂ (λ xs ys. xs ++ take run ys) (take_at (take at room) rest at front) (drop_at (take at room) rest at front)
-    ∙ ap (λ ys. take at room ++ ys) (take-append-le run bytes (drop (length bytes) (drop at room)) (omega (arith, whole)) ∙ take-take run 16 text few)
+    ∙ ap (λ ys. take at room ++ ys) (take-append-le run bytes (drop (length bytes) (drop at room)) few)
+
+-- three bytes are written, of which `wide` count
+pub three_stored : (old new entry : List ℕ) (at wide end n : ℕ) → at ≤ length old → wide ≤ 3 → n ≡ get_or entry 3 0 → wide ≡ n → end ≡ at + 3 → take end new ≡ take at old ++ take 3 entry
+    → take (at + n) new ≡ take at old ++ entry_text entry
+three_stored old new entry at wide end n room few is same e h =
+    let front : at + n ≡ length (take at old) + n = omega (arith, length-take-le at old room) in
+    sym (take-take (at + n) end new (omega arith))
+    ∙ ap (take (at + n)) h
+    ∙ ap (λ k. take k (take at old ++ take 3 entry)) front
+    ∙ take-append-add (take at old) (take 3 entry) n
+    ∙ ap (λ ys. take at old ++ ys) (take-take n 3 entry (omega arith) ∙ ap (λ k. take k entry) is)
+
+pub stored_run : (room text : List ℕ) (at run : ℕ) → at + 16 ≤ length room → 16 ≤ length text → run ≤ 16 → take (at + run) (put_chunk at room (take 16 text)) ≡ take at room ++ take run text
+stored_run room text at run wide long few =
+    let whole : length (take 16 text) ≡ 16 = length-take-le 16 text long in
+    stored room (take 16 text) at run (omega (arith, whole)) (omega (arith, whole)) ∙ ap (λ ys. take at room ++ ys) (take-take run 16 text few)
 
 pub first_of : (text : List ℕ) → ¬ (length text ≡ 0) → take 1 text ≡ get_or text 0 0 ∷ []
 first_of [] some = absurd (some refl)

@@ -1,4 +1,6 @@
+pub mod DigitLemmas
 pub mod Feeds
+pub mod Front
 pub mod InRows
 pub mod Inverse
 pub mod ItemLemmas

@@ -47,7 +47,7 @@ soft-literal b s h = ap ends_soft (parts_literal b s h) ∙ ends_soft-cons (lite
 values-literal : (b : ℕ) (s : List ℕ) → eqb b 61 ≡ false → values (parts (b ∷ s)) ≡ b ∷ values (parts s)
 values-literal b s h = ap values (parts_literal b s h) ∙ values-cons (literal b) (parts s)
 
-value-onto : (b : ℕ) (s : List ℕ) (rest : List (List ℕ)) → eqb b 61 ≡ false → value_of ((b ∷ s) ∷ rest) ≡ b ∷ value_of (s ∷ rest)
+pub value-onto : (b : ℕ) (s : List ℕ) (rest : List (List ℕ)) → eqb b 61 ≡ false → value_of ((b ∷ s) ∷ rest) ≡ b ∷ value_of (s ∷ rest)
 unfolding value_of
 value-onto b s [] h = values-literal b s h
 value-onto b s (t ∷ rest) h = rw (values-literal b s h, soft-literal b s h) refl
@@ -73,7 +73,7 @@ soft-escape u w s = ap ends_soft (parts_escape 61 u w s refl) ∙ ends_soft-cons
 values-escape : (u w b : ℕ) (s : List ℕ) → escape_value u w ≡ b ∷ [] → values (parts (61 ∷ u ∷ w ∷ s)) ≡ b ∷ values (parts s)
 values-escape u w b s h = ap values (parts_escape 61 u w s refl) ∙ values-cons (escape u w) (parts s) ∙ ap (λ x. x ++ values (parts s)) h
 
-value-escape : (u w b : ℕ) (s : List ℕ) (rest : List (List ℕ)) → escape_value u w ≡ b ∷ [] → value_of ((61 ∷ u ∷ w ∷ s) ∷ rest) ≡ b ∷ value_of (s ∷ rest)
+pub value-escape : (u w b : ℕ) (s : List ℕ) (rest : List (List ℕ)) → escape_value u w ≡ b ∷ [] → value_of ((61 ∷ u ∷ w ∷ s) ∷ rest) ≡ b ∷ value_of (s ∷ rest)
 unfolding value_of
 value-escape u w b s [] h = values-escape u w b s h
 value-escape u w b s (t ∷ rest) h = rw (values-escape u w b s h, soft-escape u w s) refl

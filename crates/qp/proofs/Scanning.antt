@@ -31,12 +31,12 @@ ink b low high = record {
   return = ne_eqb b 13 (λ e. absurd (omega (arith, low)));
 }
 
-stripped-some : (text : List ℕ) → 0 < length (stripped text)
+pub stripped-some : (text : List ℕ) → 0 < length (stripped text)
 unfolding stripped lines
 stripped-some text = omega (arith, length-map (lines text) trimmed, length-slice_split (λ b. eqb b 10) text)
 
 -- an octet put before trimmed lines stays there
-trim-ink : (b : ℕ) (s : List ℕ) → is_line_padding b ≡ false → trim_onto b s ≡ b ∷ s
+pub trim-ink : (b : ℕ) (s : List ℕ) → is_line_padding b ≡ false → trim_onto b s ≡ b ∷ s
 trim-ink b [] h = rw h refl
 trim-ink b (x ∷ s) h = refl
 
@@ -124,7 +124,7 @@ escape-says x y u w d e = rw (d.is_one, e.is_one, d.says, e.says) refl
 escape-right : (x y u w : ℕ) → Digit x u → Digit y w → part_fault (escape u w) ≡ None
 escape-right x y u w d e = rw (d.is_one, e.is_one, d.upper, e.upper) refl
 
-strip-escape : (u w : ℕ) (text : List ℕ) → Ink u → Ink w → (ss : List (List ℕ)) → stripped text ≡ ss → 0 < length ss → (s : List ℕ) × (rest : List (List ℕ)) × (ss ≡ s ∷ rest) × (stripped (61 ∷ u ∷ w ∷ text) ≡ (61 ∷ u ∷ w ∷ s) ∷ rest)
+pub strip-escape : (u w : ℕ) (text : List ℕ) → Ink u → Ink w → (ss : List (List ℕ)) → stripped text ≡ ss → 0 < length ss → (s : List ℕ) × (rest : List (List ℕ)) × (ss ≡ s ∷ rest) × (stripped (61 ∷ u ∷ w ∷ text) ≡ (61 ∷ u ∷ w ∷ s) ∷ rest)
 strip-escape u w text a b [] e n = absurd (omega (arith, n))
 strip-escape u w text a b (s ∷ rest) e n = (
   s,
@@ -161,7 +161,7 @@ scans-escape limit used b text v h r =
     (scans-digits limit used (b / 16) (b % 16) (hex_digit (b / 16)) (hex_digit (b % 16)) text v (digit (b / 16) (omega arith)) (digit (b % 16) (omega arith)) r)
 
 -- trimmed lines have a first
-some-lines : (ss : List (List ℕ)) → 0 < length ss → (s : List ℕ) × (rest : List (List ℕ)) × (ss ≡ s ∷ rest)
+pub some-lines : (ss : List (List ℕ)) → 0 < length ss → (s : List ℕ) × (rest : List (List ℕ)) × (ss ≡ s ∷ rest)
 some-lines [] n = absurd (omega (arith, n))
 some-lines (s ∷ rest) n = (s, rest, refl)
 

@@ -1,5 +1,5 @@
 -- The items of encoded text: what is never cut by a line break (RFC 2045 section 6.7).
-use Rattle.std.specs.Prelude.{ℕ, ◌+◌, ◌/◌, ◌%◌, Bool, true, false, ◌==◌, ◌||◌, ◌&&◌, not, nat_le, nat_lt, if◌then◌else◌, List, [], ◌∷◌, ◌++◌}
+use Rattle.std.specs.Prelude.{ℕ, ◌+◌, ◌/◌, ◌%◌, Bool, true, false, ◌==◌, ◌||◌, ◌&&◌, not, nat_le, nat_lt, if◌then◌else◌, List, [], ◌∷◌, ◌++◌, get_or, take}
 use Rattle.std.specs.List.{flat_map}
 use Rattle.qp.specs.declared.InputMode.{InputMode}
 use Rattle.qp.specs.declared.InputMode.TheVariants.{Text, Binary}
@@ -71,3 +71,11 @@ unfoldable pub items : InputMode → List ℕ → List Item
 items mode [] = []
 items mode (b ∷ []) = octet_item b [] ∷ []
 items mode (b ∷ c ∷ rest) = if begins_break (b ∷ c ∷ rest) then pair_items mode ++ items mode rest else octet_item b (c ∷ rest) ∷ items mode (c ∷ rest)
+
+-- what an entry tells: as many of its octets as the fourth says
+abbrev pub entry_text : List ℕ → List ℕ
+entry_text entry = take (get_or entry 3 0) entry
+
+-- the entry of an octet: itself where it stands for itself, or `=` and its two digits, and as the fourth how many octets that are
+abbrev pub octet_entry : Bool → ℕ → List ℕ
+octet_entry stands b = (if stands then b else 61) ∷ hex_digit (b / 16) ∷ hex_digit (b % 16) ∷ (if stands then 1 else 3) ∷ []

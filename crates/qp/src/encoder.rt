@@ -1,16 +1,26 @@
 //! Encoding in one pass: what needs no escape and no line break is copied in runs.
 
-ghost use Rattle.std.specs.Prelude.{◌≡◌, ◌≢◌, ℕ, ◌+◌, ◌-◌, ◌<◌, ◌≤◌, [], ◌∷◌, ◌++◌, length, ◌/◌, ◌%◌, ◌==◌, ◌&&◌, ◌||◌, true, false, not, if◌then◌else◌, IfOk, map, take, drop, Ok};
+ghost use Rattle.std.specs.Prelude.{◌≡◌, ◌≢◌, ℕ, ◌+◌, ◌-◌, ◌<◌, ◌≤◌, [], ◌∷◌, ◌++◌, length, get_or, ◌/◌, ◌%◌, ◌==◌, ◌&&◌, ◌||◌, true, false, not, if◌then◌else◌, IfOk, map, take, drop, Ok};
 ghost use Rattle.std.specs.Str.{IsUtf8};
 ghost use Rattle.qp.specs.Strict.{strict};
 ghost use Rattle.std.specs.List.{list_all};
 ghost use Rattle.qp.specs.declared.InputMode.{InputMode};
-ghost use Rattle.qp.specs.Items.{plain, items, octet_item, is_blank, ends_blank, begins_break, ends_line, hex_digit, keeps_breaks, may_stand_within};
+ghost use Rattle.qp.specs.Items.{plain, items, octet_item, is_blank, ends_blank, begins_break, ends_line, hex_digit, keeps_breaks, may_stand_within, entry_text, octet_entry};
 ghost use Rattle.qp.specs.Layout.{laid_out, laid_out_from, breaks_before, soft_break, goes_on};
 
 use super::InputMode;
-use crate::lanes::{append_front, plain_len};
+use crate::lanes::{LANES, first_plain, put};
 use std::alloc::{AllocError, Global};
+use std::simd::prelude::*;
+
+// The upper-case hexadecimal digits.
+const DIGITS: [u8; 16] = *b"0123456789ABCDEF";
+
+// How many bytes are gathered before they are appended.
+pub const ROOM: usize = 4096;
+
+// More than the bytes of a run, a soft line break and an item.
+const TURN: usize = 32;
 
 // `input` in lines of at most `limit` bytes.
 pub fn encode(
@@ -20,7 +30,8 @@ pub fn encode(
     mode: &InputMode,
 ) -> Result<Vec<u8>, AllocError>
     requires { 6 ≤ limit }
-    ensures value { IfOk result (λ encoded. encoded.items ≡ laid_out limit (items mode.now input.now)) }
+    ensures value { IfOk result (λ encoded.
+        encoded.items ≡ laid_out limit (items mode.now input.now)) }
     ensures reads_back { IfOk result (λ encoded. strict limit encoded.items ≡ Ok input.now) }
     ensures utf8 { IfOk result (λ encoded. IsUtf8 encoded.items) }
 {
@@ -40,30 +51,20 @@ fn lay_out(
 {
     let text = keeps_breaks(mode);
     let mut encoded = Vec::with_capacity(alloc, most_bytes(input.len(), limit))?;
+    let mut room = [0u8; ROOM];
     let mut used = 0;
     let mut rest = input;
-    while let Some((byte, after)) = rest.split_first() {
-        let run = run_len(rest, limit - used);
-        if run > 0 {
-            append_front(&mut encoded, rest, run)?;
-            used += run;
-            rest = &rest[run..];
-            continue;
-        }
-        if is_break(rest, text) {
-            encoded.extend_from_slice(b"\r\n")?;
-            used = 0;
-            rest = &rest[2..];
-            continue;
-        }
-        used = push_octet(&mut encoded, limit, used, *byte, after, text)?;
+    while !rest.is_empty() {
+        let (len, now, after) = fill(&mut room, rest, limit, used, text);
+        encoded.extend_from_slice(&room[..len])?;
+        used = now;
         rest = after;
     }
     Ok(encoded)
 }
 
-// At least as many bytes as so many bytes of input give: each gives at most three, and a soft line break
-// stands behind at least `limit - 3` of these.
+// At least as many bytes as so many bytes of input give: each gives at most three, and a soft line
+// break stands behind at least `limit - 3` of these.
 fn most_bytes(len: usize, limit: usize) -> usize
     requires { 6 ≤ limit }
 {
@@ -78,19 +79,151 @@ fn keeps_breaks(mode: &InputMode) -> bool
     matches!(mode, InputMode::Text)
 }
 
-// How many bytes stand for themselves at the front of `text`, with less than `room` bytes.
+// Writes the front of `input`, laid out behind `used` bytes of a line, to the front of `room`, and
+// gives how many bytes these are, how many the last line has, and what is left: until `room` is
+// nearly full.
+#[inline(always)]
+fn fill<'a>(
+    room: &mut [u8],
+    input: &'a [u8],
+    limit: usize,
+    used: usize,
+    text: bool,
+) -> (usize, usize, &'a [u8])
+    requires limit { 6 ≤ limit }
+    requires used { used ≤ limit }
+    requires room { 64 ≤ length room.old }
+    requires some { 0 < length input.now }
+    ensures value { (mode : InputMode) → keeps_breaks mode ≡ text →
+        take result.0 room.new ++ laid_out_from limit result.1 (items mode result.2.now)
+        ≡ laid_out_from limit used (items mode input.now) }
+    ensures most { result.1 ≤ limit }
+    ensures within { result.0 ≤ length room.old }
+    ensures len { length room.new ≡ length room.old }
+    ensures shorter { length result.2.now < length input.now }
+{
+    let mut at = 0;
+    let mut now = used;
+    let mut rest = input;
+    while rest.len() >= TURN && room.len() - at >= 2 * TURN {
+        let (end, column, after) = put_front(room, at, rest, limit, now, text);
+        at = end;
+        now = column;
+        rest = after;
+    }
+    if rest.is_empty() {
+        return (at, now, rest);
+    }
+    put_rest(room, at, rest, limit, now, text)
+}
+
+// The same to `room` at `from`, up to the end of `input` or until `room` is nearly full.
+fn put_rest<'a>(
+    room: &mut [u8],
+    from: usize,
+    input: &'a [u8],
+    limit: usize,
+    used: usize,
+    text: bool,
+) -> (usize, usize, &'a [u8])
+    requires limit { 6 ≤ limit }
+    requires used { used ≤ limit }
+    requires room { from + 32 ≤ length room.old }
+    requires some { 0 < length input.now }
+    ensures value { (mode : InputMode) → keeps_breaks mode ≡ text →
+        take result.0 room.new ++ laid_out_from limit result.1 (items mode result.2.now)
+        ≡ take from room.old ++ laid_out_from limit used (items mode input.now) }
+    ensures most { result.1 ≤ limit }
+    ensures within { result.0 ≤ length room.old }
+    ensures len { length room.new ≡ length room.old }
+    ensures shorter { length result.2.now < length input.now }
+{
+    let mut at = from;
+    let mut now = used;
+    let mut rest = input;
+    loop {
+        let (end, column, after) = put_front(room, at, rest, limit, now, text);
+        if after.is_empty() || room.len() - end < TURN {
+            return (end, column, after);
+        }
+        at = end;
+        now = column;
+        rest = after;
+    }
+}
+
+// Writes a run of bytes that stand for themselves, and the item behind it, to `room` at `at`, and
+// gives the place behind these, how many bytes their line has then, and what is left.
+#[inline(always)]
+fn put_front<'a>(
+    room: &mut [u8],
+    at: usize,
+    input: &'a [u8],
+    limit: usize,
+    used: usize,
+    text: bool,
+) -> (usize, usize, &'a [u8])
+    requires limit { 6 ≤ limit }
+    requires used { used ≤ limit }
+    requires room { at + 32 ≤ length room.old }
+    requires some { 0 < length input.now }
+    ensures value { (mode : InputMode) → keeps_breaks mode ≡ text →
+        take result.0 room.new ++ laid_out_from limit result.1 (items mode result.2.now)
+        ≡ take at room.old ++ laid_out_from limit used (items mode input.now) }
+    ensures most { result.1 ≤ limit }
+    ensures end { result.0 ≤ at + 22 }
+    ensures len { length room.new ≡ length room.old }
+    ensures shorter { length result.2.now < length input.now }
+{
+    let run = put_run(room, at, input, limit - used);
+    let column = used + run;
+    let rest = &input[run..];
+    let Some((byte, after)) = rest.split_first() else {
+        return (at + run, column, rest);
+    };
+    if is_break(rest, text) {
+        let end = put(room, at + run, b"\r\n");
+        return (end, 0, &rest[2..]);
+    }
+    let (end, now) = put_octet(room, at + run, limit, column, *byte, after, text);
+    (end, now, after)
+}
+
+// Writes what stands for itself at the front of `text` to `room` at `at`, sixteen bytes at most and
+// less than `most`, and gives how many these are. It may write over what lies behind them.
+#[inline(always)]
+fn put_run(room: &mut [u8], at: usize, text: &[u8], most: usize) -> usize
+    requires { at + 16 ≤ length room.old }
+    ensures written { take (at + result) room.new ≡ take at room.old ++ take result text.now }
+    ensures few { result ≤ 16 }
+    ensures within { result ≤ length text.now }
+    ensures room { result ≤ most - 1 }
+    ensures run { (mode : InputMode) →
+        items mode text.now
+        ≡ map plain (take result text.now) ++ items mode (drop result text.now) }
+    ensures len { length room.new ≡ length room.old }
+{
+    if text.len() < LANES {
+        return 0;
+    }
+    let run = run_len(text, most);
+    u8x16::from_slice(text).copy_to_slice(&mut room[at..]);
+    run
+}
+
+// How many bytes stand for themselves at the front of `text`: sixteen at most, and less than
+// `room`.
 #[inline(always)]
 fn run_len(text: &[u8], room: usize) -> usize
-    ensures within { result ≤ length text.now }
+    requires { 16 ≤ length text.now }
+    ensures few { result ≤ 16 }
     ensures room { result ≤ room - 1 }
     ensures run { (mode : InputMode) →
-        items mode text.now ≡ map plain (take result text.now) ++ items mode (drop result text.now) }
+        items mode text.now
+        ≡ map plain (take result text.now) ++ items mode (drop result text.now) }
 {
-    let most = text.len().min(room.saturating_sub(1));
-    let run = plain_len(text, most);
-    let blank = ends_blank(&text[..run]);
-    let ends = ends_line(&text[run..]);
-    if blank && ends {
+    let run = first_plain(text, room.saturating_sub(1));
+    if ends_line(&text[run..]) && ends_blank(&text[..run]) {
         return run.saturating_sub(1);
     }
     run
@@ -101,12 +234,12 @@ fn run_len(text: &[u8], room: usize) -> usize
 pub fn may_stand_within(byte: u8) -> bool
     ensures { result ≡ may_stand_within byte }
 {
-    matches!(byte, b'\t' | b' '..=b'<' | b'>'..=b'~')
+    (byte >= b' ') & (byte <= b'~') & (byte != b'=') | (byte == b'\t')
 }
 
 // Whether a byte is a tab or a space.
 #[inline(always)]
-fn is_blank(byte: u8) -> bool
+pub fn is_blank(byte: u8) -> bool
     ensures { result ≡ is_blank byte }
 {
     matches!(byte, b'\t' | b' ')
@@ -114,7 +247,7 @@ fn is_blank(byte: u8) -> bool
 
 // Whether the last byte is a tab or a space.
 #[inline(always)]
-fn ends_blank(text: &[u8]) -> bool
+pub fn ends_blank(text: &[u8]) -> bool
     ensures { result ≡ ends_blank text.now }
 {
     match text.split_last() {
@@ -147,44 +280,66 @@ fn ends_line(text: &[u8]) -> bool
     text.is_empty() || begins_break(text)
 }
 
-// Appends one byte, and gives how many bytes its line has then.
+// Writes one byte to `room` at `at`, and gives the place behind it, and how many bytes its line has
+// then.
 #[inline(always)]
-fn push_octet(
-    encoded: &mut Vec<u8>,
+fn put_octet(
+    room: &mut [u8],
+    at: usize,
     limit: usize,
     used: usize,
     byte: u8,
     after: &[u8],
     text: bool,
-) -> Result<usize, AllocError>
+) -> (usize, usize)
     requires limit { 6 ≤ limit }
     requires used { used ≤ limit }
-    ensures most { IfOk result (λ now. now ≤ limit) }
-    ensures value { IfOk result (λ now. (mode : InputMode) → keeps_breaks mode ≡ text →
-        encoded.new.items ++ laid_out_from limit now (items mode after.now)
-        ≡ encoded.old.items ++ laid_out_from limit used (octet_item byte after.now ∷ items mode after.now)) }
+    requires room { at + 7 ≤ length room.old }
+    ensures value { (mode : InputMode) → keeps_breaks mode ≡ text →
+        take result.0 room.new ++ laid_out_from limit result.1 (items mode after.now)
+        ≡ take at room.old
+        ++ laid_out_from limit used (octet_item byte after.now ∷ items mode after.now) }
+    ensures most { result.1 ≤ limit }
+    ensures end { result.0 ≤ at + 6 }
+    ensures len { length room.new ≡ length room.old }
 {
-    let more = goes_on(after, text);
-    if stands_for_itself(byte, ends_line(after)) {
-        let now = push_item(encoded, limit, used, &[byte], more)?;
-        return Ok(now);
+    if ends_line(after) {
+        let more = goes_on(after, text);
+        return put_item(room, at, limit, used, &last_entry(byte), more);
     }
-    let now = push_item(encoded, limit, used, &escape(byte), more)?;
-    Ok(now)
+    put_item(room, at, limit, used, &entry(byte), true)
 }
 
-// Whether a byte stands for itself, where its line of the input `ends` behind it or goes on.
-#[inline(always)]
-fn stands_for_itself(byte: u8, ends: bool) -> bool
-    ensures { result ≡ (may_stand_within byte && not (is_blank byte && ends)) }
+// The entry of a byte behind which a line of the input ends.
+fn last_entry(byte: u8) -> [u8; 4]
+    ensures { result ≡ octet_entry (may_stand_within byte && not (is_blank byte)) byte }
 {
-    may_stand_within(byte) && !(ends && is_blank(byte))
+    entry_by(may_stand_within(byte) && !is_blank(byte), byte)
+}
+
+// The entry of any other byte.
+#[inline(always)]
+fn entry(byte: u8) -> [u8; 4]
+    ensures { result ≡ octet_entry (may_stand_within byte) byte }
+{
+    entry_by(may_stand_within(byte), byte)
+}
+
+// The entry of a byte that stands for itself, or doesn't.
+#[inline(always)]
+fn entry_by(stands: bool, byte: u8) -> [u8; 4]
+    ensures { result ≡ octet_entry stands byte }
+{
+    let first = if stands { byte } else { b'=' };
+    let wide = if stands { 1 } else { 3 };
+    [first, hex_digit(byte / 16), hex_digit(byte % 16), wide]
 }
 
 // Whether an item follows before the next line break of the text and before the end.
 #[inline(always)]
 fn goes_on(after: &[u8], text: bool) -> bool
-    ensures { (mode : InputMode) → keeps_breaks mode ≡ text → goes_on (items mode after.now) ≡ result }
+    ensures { (mode : InputMode) →
+        keeps_breaks mode ≡ text → goes_on (items mode after.now) ≡ result }
 {
     if after.is_empty() {
         return false;
@@ -192,40 +347,54 @@ fn goes_on(after: &[u8], text: bool) -> bool
     !is_break(after, text)
 }
 
-// Appends an item, with a soft line break before it where it needs one, and gives how many bytes its line
-// has then.
+// Writes an item, told by its entry, to `room` at `at`, with a soft line break before it where it
+// needs one, and gives the place behind it, and how many bytes its line has then.
 #[inline(always)]
-fn push_item(
-    encoded: &mut Vec<u8>,
+fn put_item(
+    room: &mut [u8],
+    at: usize,
     limit: usize,
     used: usize,
-    item: &[u8],
+    entry: &[u8; 4],
     more: bool,
-) -> Result<usize, AllocError>
-    requires limit { length item.now ≤ limit }
+) -> (usize, usize)
+    requires wide { get_or entry.now 3 0 ≤ 3 }
+    requires limit { 6 ≤ limit }
     requires used { used ≤ limit }
-    ensures most { IfOk result (λ now. now ≤ limit) }
-    ensures broken { IfOk result (λ now. breaks_before limit used (length item.now) more ≡ true →
-        (encoded.new.items ≡ encoded.old.items ++ soft_break ++ item.now) × (now ≡ length item.now)) }
-    ensures fits { IfOk result (λ now. breaks_before limit used (length item.now) more ≡ false →
-        (encoded.new.items ≡ encoded.old.items ++ item.now) × (now ≡ used + length item.now)) }
+    requires room { at + 7 ≤ length room.old }
+    ensures most { result.1 ≤ limit }
+    ensures end { result.0 ≤ at + 6 }
+    ensures broken { breaks_before limit used (get_or entry.now 3 0) more ≡ true →
+        (take result.0 room.new ≡ take at room.old ++ soft_break ++ entry_text entry.now)
+        × (result.1 ≡ get_or entry.now 3 0) }
+    ensures fits { breaks_before limit used (get_or entry.now 3 0) more ≡ false →
+        (take result.0 room.new ≡ take at room.old ++ entry_text entry.now)
+        × (result.1 ≡ used + get_or entry.now 3 0) }
+    ensures len { length room.new ≡ length room.old }
 {
-    let room = limit - used;
-    if item.len() > room || (item.len() == room && more) {
-        encoded.extend_from_slice(b"=\r\n")?;
-        encoded.extend_from_slice(item)?;
-        return Ok(item.len());
+    let wide = usize::from(entry[3]);
+    let left = limit - used;
+    if wide > left || (wide == left && more) {
+        let line = put(room, at, b"=\r\n");
+        let end = put_entry(room, line, entry);
+        return (end, wide);
     }
-    encoded.extend_from_slice(item)?;
-    Ok(used + item.len())
+    let end = put_entry(room, at, entry);
+    (end, used + wide)
 }
 
-// `=` and the two upper-case digits of a byte.
+// Writes what an entry tells to `room` at `at`, and gives the place behind it. It may write over
+// what lies behind that.
 #[inline(always)]
-fn escape(byte: u8) -> [u8; 3]
-    ensures { result ≡ 61 ∷ hex_digit (byte / 16) ∷ hex_digit (byte % 16) ∷ [] }
+fn put_entry(room: &mut [u8], at: usize, entry: &[u8; 4]) -> usize
+    requires wide { get_or entry.now 3 0 ≤ 3 }
+    requires room { at + 4 ≤ length room.old }
+    ensures written { take result room.new ≡ take at room.old ++ entry_text entry.now }
+    ensures end { result ≡ at + get_or entry.now 3 0 }
+    ensures len { length room.new ≡ length room.old }
 {
-    [b'=', hex_digit(byte / 16), hex_digit(byte % 16)]
+    put(room, at, &entry[..3]);
+    at + usize::from(entry[3])
 }
 
 // The upper-case digit of a number below 16.
@@ -234,9 +403,5 @@ fn hex_digit(value: u8) -> u8
     requires { value < 16 }
     ensures { result ≡ hex_digit value }
 {
-    if value < 10 {
-        b'0' + value
-    } else {
-        b'A' - 10 + value
-    }
+    DIGITS[usize::from(value)]
 }

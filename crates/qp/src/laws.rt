@@ -1,5 +1,5 @@
-//! Laws of what quoted-printable text stands for. Each function's contract is a law; the function does
-//! nothing, or makes the one call that the law is about.
+//! Laws of what quoted-printable text stands for. Each function's contract is a law; the function
+//! does nothing, or makes the one call that the law is about.
 
 ghost use Rattle.std.specs.Prelude.{◌≡◌, ◌≢◌, ◌↔◌, ℕ, ◌≤◌, ◌<◌, List, ◌∷◌, ◌++◌, length, All, Ok, Some, IfOk, IsTrue};
 ghost use Rattle.std.specs.Ordering.{nat_cmp};
@@ -22,7 +22,8 @@ pub fn one_line()
     ensures { (text : List ℕ) → All (λ b. b ≢ 10) text → robust text ≡ line_value (kept text) }
 {}
 
-/// A text is read line by line: the first line's value and its line break, then what follows its LF.
+/// A text is read line by line: the first line's value and its line break, then what follows its
+/// LF.
 pub fn line_by_line()
     ensures { (line rest : List ℕ) → All (λ b. b ≢ 10) line →
         robust (line ++ 10 ∷ rest) ≡ line_value (kept line) ++ line_end (kept line) ++ robust rest }
@@ -30,29 +31,34 @@ pub fn line_by_line()
 
 /// Printable octets but `=` stand for themselves (RFC 2045 section 6.7, rule 2).
 pub fn literal_octets()
-    ensures { (text : List ℕ) → All (λ b. (33 ≤ b) × (b ≤ 126) × (b ≢ 61)) text → robust text ≡ text }
+    ensures { (text : List ℕ) →
+        All (λ b. (33 ≤ b) × (b ≤ 126) × (b ≢ 61)) text → robust text ≡ text }
 {}
 
 /// Where strict reading gives a value, robust reading gives the same.
 pub fn strict_is_robust()
-    ensures { (limit : ℕ) (input value : List ℕ) → strict limit input ≡ Ok value → robust input ≡ value }
+    ensures { (limit : ℕ) (input value : List ℕ) →
+        strict limit input ≡ Ok value → robust input ≡ value }
 {}
 
 /// What an encoder writes is read back, strictly, in either mode and at every limit of at least 6.
 pub fn reads_back()
-    ensures { (mode : InputMode) (limit : ℕ) (bytes : List ℕ) → 6 ≤ limit → All (λ b. b < 256) bytes →
+    ensures { (mode : InputMode) (limit : ℕ) (bytes : List ℕ) →
+        6 ≤ limit → All (λ b. b < 256) bytes →
         strict limit (laid_out limit (items mode bytes)) ≡ Ok bytes }
 {}
 
 /// What an encoder writes has no line longer than the limit, without its CR LF.
 pub fn short_lines()
-    ensures { (mode : InputMode) (limit : ℕ) (bytes : List ℕ) → 6 ≤ limit → All (λ b. b < 256) bytes →
+    ensures { (mode : InputMode) (limit : ℕ) (bytes : List ℕ) →
+        6 ≤ limit → All (λ b. b < 256) bytes →
         All (λ line. length line ≤ limit) (broken_lines (laid_out limit (items mode bytes))) }
 {}
 
 /// What an encoder writes has whole items on each line: no escape is cut.
 pub fn whole_items()
-    ensures { (mode : InputMode) (limit : ℕ) (bytes : List ℕ) → 6 ≤ limit → All (λ b. b < 256) bytes →
+    ensures { (mode : InputMode) (limit : ℕ) (bytes : List ℕ) →
+        6 ≤ limit → All (λ b. b < 256) bytes →
         StandsInRows (items mode bytes) (laid_out limit (items mode bytes)) }
 {}
 
@@ -115,7 +121,8 @@ pub fn order_of_faults(
     second: &QuotedPrintableError,
 ) -> (Ordering, Option<Ordering>)
     ensures cmp { result.0 ≡ nat_cmp (error_place first.now) (error_place second.now) }
-    ensures partial_cmp { result.1 ≡ Some (nat_cmp (error_place first.now) (error_place second.now)) }
+    ensures partial_cmp { result.1
+        ≡ Some (nat_cmp (error_place first.now) (error_place second.now)) }
 {
     (first.cmp(second), first.partial_cmp(second))
 }

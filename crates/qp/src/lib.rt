@@ -49,8 +49,8 @@ impl Options {
     ghost use Rattle.std.specs.Prelude.{◌≡◌};
     ghost use Rattle.qp.specs.Settings.{line_limit, input_mode, parse_mode};
 
-    /// These options with a line limit in bytes. An encoder breaks lines at it, and a strict decoder
-    /// refuses longer ones; neither counts the CR LF.
+    /// These options with a line limit in bytes. An encoder breaks lines at it, and a strict
+    /// decoder refuses longer ones; neither counts the CR LF.
     pub fn line_length_limit(mut self, limit: usize) -> Options
         ensures line_limit { line_limit result ≡ limit }
         ensures input_mode { input_mode result ≡ input_mode self }
@@ -87,7 +87,8 @@ impl Default for Options {
     ghost use Rattle.qp.specs.declared.InputMode.TheVariants.{Text};
     ghost use Rattle.qp.specs.declared.ParseMode.TheVariants.{Robust};
 
-    ghost is_default = { λ o. (line_limit o ≡ 76) × (input_mode o ≡ Text) × (parse_mode o ≡ Robust) };
+    ghost is_default = { λ o.
+        (line_limit o ≡ 76) × (input_mode o ≡ Text) × (parse_mode o ≡ Robust) };
 
     fn default() -> Options {
         Options {
@@ -101,7 +102,8 @@ impl Default for Options {
 /// A fault of quoted-printable input, which strict decoding refuses.
 #[derive(Clone, Debug, PartialEq, Eq, PartialOrd, Ord, Hash, Drop)]
 pub enum QuotedPrintableError {
-    /// A byte outside tab, CR, LF and 20 to 7E, a CR without LF after it, or an LF without CR before it.
+    /// A byte outside tab, CR, LF and 20 to 7E, a CR without LF after it, or an LF without CR
+    /// before it.
     InvalidByte,
     /// A line of more bytes than the limit, without its CR LF.
     LineTooLong,
@@ -161,6 +163,20 @@ pub enum QpError {
     Quoted(QuotedPrintableError),
 }
 
+impl fmt::Display for QpError {
+    ghost use Rattle.std.specs.Prelude.{Some};
+    ghost use Rattle.qp.specs.Message.{decode_message};
+
+    ghost output = { λ e. Some (decode_message e) };
+
+    fn fmt<W: fmt::Write>(&self, f: &mut fmt::Formatter<W>) -> fmt::Result {
+        match self {
+            QpError::Memory => write!(f, "no memory"),
+            QpError::Quoted(fault) => write!(f, "{fault}"),
+        }
+    }
+}
+
 impl From<AllocError> for QpError {
     ghost use Rattle.std.specs.Prelude.{◌≡◌};
     ghost use Rattle.qp.specs.declared.QpError.TheVariants.{Memory};
@@ -172,8 +188,8 @@ impl From<AllocError> for QpError {
     }
 }
 
-/// The bytes that quoted-printable `input` stands for (RFC 2045 section 6.7), by the default options
-/// with this parse mode. In strict mode the input's first fault is an error.
+/// The bytes that quoted-printable `input` stands for (RFC 2045 section 6.7), by the default
+/// options with this parse mode. In strict mode the input's first fault is an error.
 pub fn decode(alloc: Global, input: &[u8], mode: ParseMode) -> Result<Vec<u8>, QpError>
     ensures value { IfOk result (λ bytes. bytes.items ≡ robust input.now) }
     ensures decoded { IfOk result (λ bytes. decoded mode 76 input.now ≡ Ok bytes.items) }
@@ -185,8 +201,8 @@ pub fn decode(alloc: Global, input: &[u8], mode: ParseMode) -> Result<Vec<u8>, Q
 }
 
 /// The bytes that quoted-printable `input` stands for (RFC 2045 section 6.7), by these options. In
-/// strict mode the input's first fault is an error: a byte that may not stand there, anywhere; then,
-/// line by line, a line longer than the limit or an escape that is cut, has no digits or has
+/// strict mode the input's first fault is an error: a byte that may not stand there, anywhere;
+/// then, line by line, a line longer than the limit or an escape that is cut, has no digits or has
 /// lowercase ones; then a soft line break at the end, behind a line that ends in a hard one.
 pub fn decode_with_options(
     alloc: Global,
@@ -198,7 +214,8 @@ pub fn decode_with_options(
         decoded (parse_mode options) (line_limit options) input.now ≡ Ok bytes.items) }
     ensures quoted { (fault : QuotedPrintableError) → result ≡ Err (QpError.Quoted fault) →
         decoded (parse_mode options) (line_limit options) input.now ≡ Err fault }
-    ensures memory_alone { parse_mode options ≡ ParseMode.Robust → IsOkUnless result QpError.Memory }
+    ensures memory_alone { parse_mode options ≡ ParseMode.Robust →
+        IsOkUnless result QpError.Memory }
 {
     match options.parse_mode {
         ParseMode::Robust => {
@@ -225,8 +242,8 @@ fn decode_strictly(alloc: Global, input: &[u8], limit: usize) -> Result<Vec<u8>,
     }
 }
 
-/// Quoted-printable text of `input` as text (RFC 2045 section 6.7), in lines of at most 76 bytes: a CR LF
-/// pair is a line break.
+/// Quoted-printable text of `input` as text (RFC 2045 section 6.7), in lines of at most 76 bytes: a
+/// CR LF pair is a line break.
 pub fn encode(alloc: Global, input: &[u8]) -> Result<Vec<u8>, AllocError>
     ensures value { IfOk result (λ encoded.
         encoded.items ≡ laid_out 76 (items InputMode.Text input.now)) }
@@ -236,8 +253,8 @@ pub fn encode(alloc: Global, input: &[u8]) -> Result<Vec<u8>, AllocError>
     Ok(encoded)
 }
 
-/// Quoted-printable text of any `input` (RFC 2045 section 6.7), in lines of at most 76 bytes: a CR LF pair
-/// is two bytes like others.
+/// Quoted-printable text of any `input` (RFC 2045 section 6.7), in lines of at most 76 bytes: a CR
+/// LF pair is two bytes like others.
 pub fn encode_binary(alloc: Global, input: &[u8]) -> Result<Vec<u8>, AllocError>
     ensures value { IfOk result (λ encoded.
         encoded.items ≡ laid_out 76 (items InputMode.Binary input.now)) }
@@ -267,8 +284,8 @@ pub fn encode_binary_to_str(alloc: Global, input: &[u8]) -> Result<String, Alloc
     Ok(unsafe { String::from_utf8_unchecked(encoded) })
 }
 
-/// Quoted-printable text of `input` (RFC 2045 section 6.7) by these options, whose line limit is at least
-/// 6 bytes. Strict decoding with the same options gives the input back.
+/// Quoted-printable text of `input` (RFC 2045 section 6.7) by these options, whose line limit is at
+/// least 6 bytes. Strict decoding with the same options gives the input back.
 pub fn encode_with_options(
     alloc: Global,
     input: &[u8],
@@ -276,7 +293,8 @@ pub fn encode_with_options(
 ) -> Result<String, AllocError>
     requires { 6 ≤ line_limit options }
     ensures value { IfOk result (λ encoded.
-        string_bytes encoded ≡ laid_out (line_limit options) (items (input_mode options) input.now)) }
+        string_bytes encoded
+        ≡ laid_out (line_limit options) (items (input_mode options) input.now)) }
     ensures reads_back { IfOk result (λ encoded.
         strict (line_limit options) (string_bytes encoded) ≡ Ok input.now) }
 {

@@ -1,41 +1,144 @@
 //! Robust decoding: nothing of the input is refused.
 
-ghost use Rattle.std.specs.Prelude.{◌≡◌, ◌+◌, ◌<◌, ◌↔◌, [], ◌∷◌, ◌++◌, ◌≤◌, true, length, take, drop, if◌then◌else◌, not, ◌||◌, IfNone, IfSome, IfOk};
+ghost use Rattle.std.specs.Prelude.{◌≡◌, ◌+◌, ◌<◌, ◌↔◌, [], ◌∷◌, ◌++◌, ◌≤◌, true, length, get_or, take, drop, ◌==◌, if◌then◌else◌, not, ◌||◌, IfNone, IfSome, IfOk};
 ghost use Rattle.std.specs.List.{list_all};
+ghost use Rattle.std.specs.Char.{is_digit};
 ghost use Rattle.qp.specs.Items.{may_stand_within};
 ghost use Rattle.qp.specs.Text.{is_text_octet, is_line_padding, kept, trimmed};
 ghost use Rattle.qp.specs.Line.{parts, values, ends_soft, line_value, is_soft, escape_value};
 ghost use Rattle.qp.specs.Robust.{robust, line_end};
+ghost use Rattle.qp.specs.Digits.{digit_or_none, begins_soft_break};
 
-use crate::encoder::may_stand_within;
-use crate::lanes::{LANES, plain_lanes};
+use crate::encoder::{ROOM, begins_break, ends_blank, may_stand_within};
+use crate::lanes::{LANES, plain_lanes, put};
 use memchr::memchr;
 use std::alloc::{AllocError, Global};
 use std::simd::prelude::*;
 
-// How many bytes of a line are gathered before they are appended.
-const ROOM: usize = 1024;
+// The number that each byte says as a hexadecimal digit, or 255.
+const DIGITS: [u8; 256] = *b"\
+    \xff\xff\xff\xff\xff\xff\xff\xff\xff\xff\xff\xff\xff\xff\xff\xff\
+    \xff\xff\xff\xff\xff\xff\xff\xff\xff\xff\xff\xff\xff\xff\xff\xff\
+    \xff\xff\xff\xff\xff\xff\xff\xff\xff\xff\xff\xff\xff\xff\xff\xff\
+    \x00\x01\x02\x03\x04\x05\x06\x07\x08\x09\xff\xff\xff\xff\xff\xff\
+    \xff\x0a\x0b\x0c\x0d\x0e\x0f\xff\xff\xff\xff\xff\xff\xff\xff\xff\
+    \xff\xff\xff\xff\xff\xff\xff\xff\xff\xff\xff\xff\xff\xff\xff\xff\
+    \xff\x0a\x0b\x0c\x0d\x0e\x0f\xff\xff\xff\xff\xff\xff\xff\xff\xff\
+    \xff\xff\xff\xff\xff\xff\xff\xff\xff\xff\xff\xff\xff\xff\xff\xff\
+    \xff\xff\xff\xff\xff\xff\xff\xff\xff\xff\xff\xff\xff\xff\xff\xff\
+    \xff\xff\xff\xff\xff\xff\xff\xff\xff\xff\xff\xff\xff\xff\xff\xff\
+    \xff\xff\xff\xff\xff\xff\xff\xff\xff\xff\xff\xff\xff\xff\xff\xff\
+    \xff\xff\xff\xff\xff\xff\xff\xff\xff\xff\xff\xff\xff\xff\xff\xff\
+    \xff\xff\xff\xff\xff\xff\xff\xff\xff\xff\xff\xff\xff\xff\xff\xff\
+    \xff\xff\xff\xff\xff\xff\xff\xff\xff\xff\xff\xff\xff\xff\xff\xff\
+    \xff\xff\xff\xff\xff\xff\xff\xff\xff\xff\xff\xff\xff\xff\xff\xff\
+    \xff\xff\xff\xff\xff\xff\xff\xff\xff\xff\xff\xff\xff\xff\xff\xff";
+
+// As many bytes as a turn of `fill_text` may write, and as it looks at.
+const TURN: usize = 19;
 
 // The bytes that `input` stands for, line by line.
 pub fn decode(alloc: Global, input: &[u8]) -> Result<Vec<u8>, AllocError>
     ensures { IfOk result (λ bytes. bytes.items ≡ robust input.now) }
 {
-    let mut decoded = Vec::with_capacity(alloc, most_bytes(input))?;
+    let mut decoded = Vec::with_capacity(alloc, input.len())?;
     let mut room = [0u8; ROOM];
-    let mut rest = input;
+    let mut rest = copy_text(&mut decoded, &mut room, input)?;
     while let Some((line, after)) = split_line(rest) {
         let soft = push_line(&mut decoded, &mut room, line)?;
         push_line_end(&mut decoded, soft)?;
-        rest = after;
+        rest = copy_text(&mut decoded, &mut room, after)?;
     }
     push_line(&mut decoded, &mut room, rest)?;
     Ok(decoded)
 }
 
-// At least as many bytes as `input` stands for: a line stands for no more bytes than it has, and its LF
-// for two.
-fn most_bytes(input: &[u8]) -> usize {
-    input.len() + input.iter().filter(|b| **b == b'\n').count()
+// Appends what the front of `text` stands for, as far as `fill_text` reads it, and gives the rest.
+#[inline(always)]
+fn copy_text<'a>(
+    decoded: &mut Vec<u8>,
+    room: &mut [u8],
+    text: &'a [u8],
+) -> Result<&'a [u8], AllocError>
+    ensures value { IfOk result (λ rest.
+        decoded.new.items ++ robust rest.now ≡ decoded.old.items ++ robust text.now) }
+    ensures shorter { IfOk result (λ rest. length rest.now ≤ length text.now) }
+    ensures len { length room.new ≡ length room.old }
+{
+    let mut rest = text;
+    loop {
+        let (len, after) = fill_text(room, rest);
+        decoded.extend_from_slice(&room[..len])?;
+        if after.len() == rest.len() {
+            return Ok(after);
+        }
+        rest = after;
+    }
+}
+
+// Writes what the front of `text` stands for to the front of `room`, and gives how many bytes these
+// are, and the rest: until `put_text` reads no further, or `room` is nearly full.
+#[inline(always)]
+fn fill_text<'a>(room: &mut [u8], text: &'a [u8]) -> (usize, &'a [u8])
+    ensures value { take result.0 room.new ++ robust result.1.now ≡ robust text.now }
+    ensures within { result.0 ≤ length room.old }
+    ensures len { length room.new ≡ length room.old }
+    ensures shorter { length result.1.now ≤ length text.now }
+{
+    let mut at = 0;
+    let mut rest = text;
+    while rest.len() >= TURN && room.len() - at >= TURN {
+        let (end, after) = put_text(room, at, rest);
+        if after.len() == rest.len() {
+            return (end, after);
+        }
+        at = end;
+        rest = after;
+    }
+    (at, rest)
+}
+
+// Writes what a run of plain bytes at the front of `text` and the escape or the line break behind
+// it stand for to `room` at `at`, and gives the place behind it, and the rest: all of `text` where
+// neither stands there, or where blanks may stand at the end of a line.
+#[inline(always)]
+fn put_text<'a>(room: &mut [u8], at: usize, text: &'a [u8]) -> (usize, &'a [u8])
+    requires room { at + 19 ≤ length room.old }
+    requires text { 19 ≤ length text.now }
+    ensures value { take result.0 room.new ++ robust result.1.now
+        ≡ take at room.old ++ robust text.now }
+    ensures end { result.0 ≤ at + 19 }
+    ensures len { length room.new ≡ length room.old }
+    ensures shorter { length result.1.now ≤ length text.now }
+{
+    let run = plain_lanes(text, 0);
+    u8x16::from_slice(text).copy_to_slice(&mut room[at..]);
+    let rest = &text[run..];
+    if let Some(octet) = escaped_octet(rest) {
+        let end = put(room, at + run, &[octet]);
+        return (end, &rest[3..]);
+    }
+    if is_soft_break(rest) {
+        return (at + run, &rest[3..]);
+    }
+    let blank = ends_blank(&text[..run]);
+    if !blank && begins_break(rest) {
+        let end = put(room, at + run, b"\r\n");
+        return (end, &rest[2..]);
+    }
+    let cut = run.saturating_sub(usize::from(blank));
+    if ends_blank(&text[..cut]) {
+        return (at, text);
+    }
+    (at + cut, &text[cut..])
+}
+
+// Whether `=` and a CR LF pair stand at the front.
+#[inline(always)]
+fn is_soft_break(text: &[u8]) -> bool
+    ensures { result ≡ begins_soft_break text.now }
+{
+    text.len() >= 3 && text[0] == b'=' && text[1] == b'\r' && text[2] == b'\n'
 }
 
 // The first line that an LF ends, and what follows that LF.
@@ -53,7 +156,8 @@ fn split_line(text: &[u8]) -> Option<(&[u8], &[u8])>
 // Appends the CR LF of a line, unless the line ends in a soft line break.
 #[inline(always)]
 fn push_line_end(decoded: &mut Vec<u8>, soft: bool) -> Result<(), AllocError>
-    ensures { IfOk result (λ _. decoded.new.items ≡ decoded.old.items ++ (if soft then [] else 13 ∷ 10 ∷ [])) }
+    ensures { IfOk result (λ _.
+        decoded.new.items ≡ decoded.old.items ++ (if soft then [] else 13 ∷ 10 ∷ [])) }
 {
     if !soft {
         decoded.push(b'\r')?;
@@ -65,7 +169,8 @@ fn push_line_end(decoded: &mut Vec<u8>, soft: bool) -> Result<(), AllocError>
 // Appends what one line stands for, without its line break, and says whether it ends in a soft one.
 #[inline(always)]
 fn push_line(decoded: &mut Vec<u8>, room: &mut [u8], line: &[u8]) -> Result<bool, AllocError>
-    ensures value { IfOk result (λ _. decoded.new.items ≡ decoded.old.items ++ line_value (kept line.now)) }
+    ensures value { IfOk result (λ _.
+        decoded.new.items ≡ decoded.old.items ++ line_value (kept line.now)) }
     ensures soft { IfOk result (λ soft. soft ≡ is_soft (kept line.now)) }
 {
     let mut rest = copy_front(decoded, room, trim_end(line))?;
@@ -146,7 +251,8 @@ fn copy_front<'a>(
 ) -> Result<&'a [u8], AllocError>
     ensures value { IfOk result (λ rest. decoded.new.items ++ values (parts (kept rest.now))
         ≡ decoded.old.items ++ values (parts (kept text.now))) }
-    ensures soft { IfOk result (λ rest. ends_soft (parts (kept rest.now)) ≡ ends_soft (parts (kept text.now))) }
+    ensures soft { IfOk result (λ rest.
+        ends_soft (parts (kept rest.now)) ≡ ends_soft (parts (kept text.now))) }
     ensures shorter { IfOk result (λ rest. length rest.now ≤ length text.now) }
 {
     let (len, rest) = fill(room, text);
@@ -154,11 +260,13 @@ fn copy_front<'a>(
     Ok(rest)
 }
 
-// Writes what the front of `text` stands for to the front of `room`, and gives how many bytes these are,
-// and the rest: up to a byte that isn't plain and begins no escape of two digits, or until `room` is full.
+// Writes what the front of `text` stands for to the front of `room`, and gives how many bytes these
+// are, and the rest: up to a byte that isn't plain and begins no escape of two digits, or until
+// `room` is full.
 #[inline(always)]
 fn fill<'a>(room: &mut [u8], text: &'a [u8]) -> (usize, &'a [u8])
-    ensures value { take result.0 room.new ++ values (parts (kept result.1.now)) ≡ values (parts (kept text.now)) }
+    ensures value { take result.0 room.new ++ values (parts (kept result.1.now))
+        ≡ values (parts (kept text.now)) }
     ensures soft { ends_soft (parts (kept result.1.now)) ≡ ends_soft (parts (kept text.now)) }
     ensures within { result.0 ≤ length room.old }
     ensures len { length room.new ≡ length room.old }
@@ -183,8 +291,8 @@ fn fill<'a>(room: &mut [u8], text: &'a [u8]) -> (usize, &'a [u8])
     (len, rest)
 }
 
-// Writes plain bytes at the front of `text` to `room` at `at`, and gives how many: up to sixteen at once,
-// or one. It may write over what lies behind them.
+// Writes plain bytes at the front of `text` to `room` at `at`, and gives how many: up to sixteen at
+// once, or one. It may write over what lies behind them.
 #[inline(always)]
 fn put_run(room: &mut [u8], at: usize, text: &[u8]) -> usize
     requires { at < length room.old }
@@ -213,8 +321,12 @@ fn put_run(room: &mut [u8], at: usize, text: &[u8]) -> usize
 // The byte that `=` and two digits at the front of `text` say.
 #[inline(always)]
 fn escaped_octet(text: &[u8]) -> Option<u8>
-    ensures value { IfSome result (λ octet. values (parts (kept text.now)) ≡ octet ∷ values (parts (kept (drop 3 text.now)))) }
-    ensures soft { IfSome result (λ _. ends_soft (parts (kept (drop 3 text.now))) ≡ ends_soft (parts (kept text.now))) }
+    ensures value { IfSome result (λ octet.
+        values (parts (kept text.now)) ≡ octet ∷ values (parts (kept (drop 3 text.now)))) }
+    ensures soft { IfSome result (λ _.
+        ends_soft (parts (kept (drop 3 text.now))) ≡ ends_soft (parts (kept text.now))) }
+    ensures robust { IfSome result (λ octet. robust text.now ≡ octet ∷ robust (drop 3 text.now)) }
+    ensures sign { IfSome result (λ _. (get_or text.now 0 0 == 61) ≡ true) }
     ensures long { IfSome result (λ _. 3 ≤ length text.now) }
 {
     if text.len() < 3 || text[0] != b'=' {
@@ -228,16 +340,31 @@ fn escaped_octet(text: &[u8]) -> Option<u8>
 #[inline(always)]
 fn two_digits(high: u8, low: u8) -> Option<u8>
     ensures value { IfSome result (λ octet. escape_value high low ≡ octet ∷ []) }
-    ensures high { IfSome result (λ _. is_text_octet high ≡ true) }
-    ensures low { IfSome result (λ _. is_text_octet low ≡ true) }
+    ensures high { IfSome result (λ _. is_digit high 16 ≡ true) }
+    ensures low { IfSome result (λ _. is_digit low 16 ≡ true) }
 {
-    if !is_text(high) || !is_text(low) {
+    let tens = digit(high);
+    let ones = digit(low);
+    if tens >= 16 || ones >= 16 {
         return None;
     }
-    match (char::from(high).to_digit(16), char::from(low).to_digit(16)) {
-        (Some(high_digit), Some(low_digit)) => Some((high_digit * 16 + low_digit) as u8),
-        _ => None,
-    }
+    Some(tens * 16 + ones)
+}
+
+// Whether a byte is a hexadecimal digit of either case.
+#[inline(always)]
+pub fn is_hex(byte: u8) -> bool
+    ensures { result ≡ is_digit byte 16 }
+{
+    digit(byte) < 16
+}
+
+// The number that a digit of either case says, or 255.
+#[inline(always)]
+fn digit(byte: u8) -> u8
+    ensures { result ≡ digit_or_none byte }
+{
+    DIGITS[usize::from(byte)]
 }
 
 // Whether a byte may stand in quoted-printable text.

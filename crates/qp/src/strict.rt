@@ -10,6 +10,7 @@ ghost use Rattle.qp.specs.Strict.{has_invalid_byte, first_fault, part_fault, is_
 use super::QuotedPrintableError;
 use crate::encoder::begins_break;
 use crate::lanes::{LANES, plain_lanes, printable_lanes};
+use crate::robust::is_hex;
 use memchr::memchr;
 
 // The first fault of `input`, where it has one.
@@ -89,7 +90,8 @@ fn find_line_fault(input: &[u8], limit: usize) -> Option<QuotedPrintableError>
 // The fault of the end of the lines, of which the last is `soft`, or some `hard`.
 #[inline(always)]
 fn end_fault(soft: bool, hard: bool) -> Option<QuotedPrintableError>
-    ensures { result ≡ (if soft && hard then Some QuotedPrintableError.IncompleteHexOctet else None) }
+    ensures { result
+        ≡ (if soft && hard then Some QuotedPrintableError.IncompleteHexOctet else None) }
 {
     if soft && hard {
         return Some(QuotedPrintableError::IncompleteHexOctet);
@@ -155,11 +157,13 @@ fn scan_parts(text: &[u8]) -> Result<bool, QuotedPrintableError>
     Ok(false)
 }
 
-// What follows bytes at the front of `text` that stand for themselves, which are looked at sixteen at a time.
+// What follows bytes at the front of `text` that stand for themselves, which are looked at sixteen
+// at a time.
 #[inline(always)]
 fn skip_plain(text: &[u8]) -> &[u8]
     ensures soft { ends_soft (parts result.now) ≡ ends_soft (parts text.now) }
-    ensures fault { first_fault part_fault (parts result.now) ≡ first_fault part_fault (parts text.now) }
+    ensures fault { first_fault part_fault (parts result.now)
+        ≡ first_fault part_fault (parts text.now) }
     ensures shorter { length result.now ≤ length text.now }
 {
     let mut rest = text;
@@ -192,7 +196,7 @@ fn escape_fault(high: u8, low: u8) -> Option<QuotedPrintableError>
 fn are_digits(high: u8, low: u8) -> bool
     ensures { result ≡ (is_digit high 16 && is_digit low 16) }
 {
-    char::from(high).is_digit(16) && char::from(low).is_digit(16)
+    is_hex(high) && is_hex(low)
 }
 
 // Whether one of two digits is a lowercase letter.

@@ -312,27 +312,66 @@ const BINARY_ROWS: [(&str, &[u8], &[u8]); 3] = [
     (
         "fifteen line breaks",
         b"\r\n\r\n\r\n\r\n\r\n\r\n\r\n\r\n\r\n\r\n\r\n\r\n\r\n\r\n\r\n",
-        b"=0D=0A=0D=0A=0D=0A=0D=0A=0D=0A=0D=0A=0D=0A=0D=0A=0D=0A=0D=0A=0D=0A=0D=0A=0D=\r\n=0A=0D=0A=0D=0A",
+        b"=0D=0A=0D=0A=0D=0A=0D=0A=0D=0A=0D=0A=0D=0A=0D=0A=0D=0A=0D=0A=0D=0A=0D=0A=0D=\r\n\
+          =0A=0D=0A=0D=0A",
     ),
 ];
 
 #[test]
-fn decodes_robustly(rt: HostRuntime) -> Result<(), Fail> {
+fn decodes_rows(rt: HostRuntime) -> Result<(), Fail> {
     for (name, input, want) in ROWS {
         let decoded = decode(rt.alloc(), input, ParseMode::Robust)?;
         assert_eq!(rt; decoded.as_slice(), want, "{name}");
+    }
+    for (name, input, want) in STRICT_ROWS {
+        let decoded = decode(rt.alloc(), input, ParseMode::Strict)?;
+        assert_eq!(rt; decoded.as_slice(), want, "{name}");
+    }
+    for (name, input, want) in FAULTS {
+        let answer = decode(rt.alloc(), input, ParseMode::Strict);
+        assert!(rt; answer == Err(QpError::Quoted(want)), "{name}");
     }
     Ok(())
 }
 
 #[test]
-fn decodes_with_options(rt: HostRuntime) -> Result<(), Fail> {
-    let options = Options::default()
+fn encodes_rows(rt: HostRuntime) -> Result<(), Fail> {
+    for (name, input, want) in TEXT_ROWS {
+        let text = encode_to_str(rt.alloc(), input)?;
+        assert_eq!(rt; text.as_bytes(), want, "{name}");
+        let bytes = encode(rt.alloc(), input)?;
+        assert_eq!(rt; bytes.as_slice(), want, "{name}");
+    }
+    for (name, input, want) in BINARY_ROWS {
+        let text = encode_binary_to_str(rt.alloc(), input)?;
+        assert_eq!(rt; text.as_bytes(), want, "{name}");
+        let bytes = encode_binary(rt.alloc(), input)?;
+        assert_eq!(rt; bytes.as_slice(), want, "{name}");
+    }
+    Ok(())
+}
+
+#[test]
+fn takes_options(rt: HostRuntime) -> Result<(), Fail> {
+    let robust = Options::default()
         .line_length_limit(998)
         .input_mode(InputMode::Binary)
         .parse_mode(ParseMode::Robust);
-    let decoded = decode_with_options(rt.alloc(), b"=41\n", options)?;
+    let decoded = decode_with_options(rt.alloc(), b"=41\n", robust)?;
     assert_eq!(rt; decoded.as_slice(), b"A\r\n".as_slice());
+    let strict = Options::default().parse_mode(ParseMode::Strict);
+    let seven = strict.clone()?.line_length_limit(7);
+    let decoded = decode_with_options(rt.alloc(), b"1234567\r\n", seven)?;
+    assert_eq!(rt; decoded.as_slice(), b"1234567\r\n".as_slice());
+    let six = strict.line_length_limit(6);
+    let answer = decode_with_options(rt.alloc(), b"1234567\r\n", six);
+    assert!(rt; answer == Err(QpError::Quoted(QuotedPrintableError::LineTooLong)));
+    let least = Options::default().line_length_limit(6);
+    let text = encode_with_options(rt.alloc(), b"\x00\x00\x00", least)?;
+    assert_eq!(rt; text.as_bytes(), b"=00=\r\n=00=00".as_slice());
+    let binary = Options::default().input_mode(InputMode::Binary);
+    let text = encode_with_options(rt.alloc(), b"foo\r\n", binary)?;
+    assert_eq!(rt; text.as_bytes(), b"foo=0D=0A".as_slice());
     Ok(())
 }
 
@@ -360,73 +399,14 @@ fn shows_errors(rt: HostRuntime) -> Result<(), Fail> {
             "A '=' was followed by lowercase hex characters",
         ),
     ];
-    for (error, want) in &rows {
-        let text = error.to_string(rt.alloc())?;
-        assert_eq!(rt; text.as_str(), *want);
+    for (fault, want) in rows {
+        let text = fault.to_string(rt.alloc())?;
+        assert_eq!(rt; text.as_str(), want);
+        let text = QpError::Quoted(fault).to_string(rt.alloc())?;
+        assert_eq!(rt; text.as_str(), want);
     }
-    Ok(())
-}
-
-#[test]
-fn decodes_strictly(rt: HostRuntime) -> Result<(), Fail> {
-    for (name, input, want) in STRICT_ROWS {
-        let decoded = decode(rt.alloc(), input, ParseMode::Strict)?;
-        assert_eq!(rt; decoded.as_slice(), want, "{name}");
-    }
-    Ok(())
-}
-
-#[test]
-fn refuses_the_first_fault(rt: HostRuntime) -> Result<(), Fail> {
-    for (name, input, want) in FAULTS {
-        let answer = decode(rt.alloc(), input, ParseMode::Strict);
-        assert!(rt; answer == Err(QpError::Quoted(want)), "{name}");
-    }
-    Ok(())
-}
-
-#[test]
-fn keeps_a_line_limit(rt: HostRuntime) -> Result<(), Fail> {
-    let strict = Options::default().parse_mode(ParseMode::Strict);
-    let seven = strict.clone()?.line_length_limit(7);
-    let decoded = decode_with_options(rt.alloc(), b"1234567\r\n", seven)?;
-    assert_eq!(rt; decoded.as_slice(), b"1234567\r\n".as_slice());
-    let six = strict.line_length_limit(6);
-    let answer = decode_with_options(rt.alloc(), b"1234567\r\n", six);
-    assert!(rt; answer == Err(QpError::Quoted(QuotedPrintableError::LineTooLong)));
-    Ok(())
-}
-
-#[test]
-fn encodes_text(rt: HostRuntime) -> Result<(), Fail> {
-    for (name, input, want) in TEXT_ROWS {
-        let text = encode_to_str(rt.alloc(), input)?;
-        assert_eq!(rt; text.as_bytes(), want, "{name}");
-        let bytes = encode(rt.alloc(), input)?;
-        assert_eq!(rt; bytes.as_slice(), want, "{name}");
-    }
-    Ok(())
-}
-
-#[test]
-fn encodes_bytes(rt: HostRuntime) -> Result<(), Fail> {
-    for (name, input, want) in BINARY_ROWS {
-        let text = encode_binary_to_str(rt.alloc(), input)?;
-        assert_eq!(rt; text.as_bytes(), want, "{name}");
-        let bytes = encode_binary(rt.alloc(), input)?;
-        assert_eq!(rt; bytes.as_slice(), want, "{name}");
-    }
-    Ok(())
-}
-
-#[test]
-fn encodes_with_options(rt: HostRuntime) -> Result<(), Fail> {
-    let least = Options::default().line_length_limit(6);
-    let text = encode_with_options(rt.alloc(), b"\x00\x00\x00", least)?;
-    assert_eq!(rt; text.as_bytes(), b"=00=\r\n=00=00".as_slice());
-    let binary = Options::default().input_mode(InputMode::Binary);
-    let text = encode_with_options(rt.alloc(), b"foo\r\n", binary)?;
-    assert_eq!(rt; text.as_bytes(), b"foo=0D=0A".as_slice());
+    let text = QpError::Memory.to_string(rt.alloc())?;
+    assert_eq!(rt; text.as_str(), "no memory");
     Ok(())
 }
 
@@ -507,54 +487,6 @@ fn slow_layout(alloc: Global, items: &[Item], limit: usize) -> Result<Vec<u8>, A
     Ok(out)
 }
 
-// Bytes that look random, of which many are letters, white space and line breaks.
-fn mixed_bytes(alloc: Global, len: usize, seed: u32) -> Result<Vec<u8>, AllocError> {
-    let mut bytes = Vec::new(alloc);
-    let mut state = seed;
-    for _ in 0..len {
-        state = state.wrapping_mul(1_664_525).wrapping_add(1_013_904_223);
-        let high = state >> 24;
-        let byte = match high % 16 {
-            0 => b' ',
-            1 => b'\t',
-            2 | 3 => b'\r',
-            4 | 5 => b'\n',
-            6 => b'=',
-            7 => 200,
-            _ => 97 + (high % 26) as u8,
-        };
-        bytes.push(byte)?;
-    }
-    Ok(bytes)
-}
-
-#[test]
-fn encodes_as_the_slow_encoder(rt: HostRuntime) -> Result<(), Fail> {
-    for len in 0..40usize {
-        for limit in 6..16usize {
-            let input = mixed_bytes(rt.alloc(), len, limit as u32 * 1000 + len as u32)?;
-            for text in [true, false] {
-                let items = slow_items(rt.alloc(), &input, text)?;
-                let want = slow_layout(rt.alloc(), &items, limit)?;
-                let mode = if text {
-                    InputMode::Text
-                } else {
-                    InputMode::Binary
-                };
-                let options = Options::default().line_length_limit(limit).input_mode(mode);
-                let encoded = encode_with_options(rt.alloc(), &input, options)?;
-                assert_eq!(rt; encoded.as_bytes(), want.as_slice());
-                let back = Options::default()
-                    .line_length_limit(limit)
-                    .parse_mode(ParseMode::Strict);
-                let decoded = decode_with_options(rt.alloc(), encoded.as_bytes(), back)?;
-                assert_eq!(rt; decoded.as_slice(), input.as_slice());
-            }
-        }
-    }
-    Ok(())
-}
-
 // Pieces of quoted-printable text that are whole, cut, faulty, blank or long.
 const PIECES: [&[u8]; 16] = [
     b"=4D",
@@ -617,16 +549,16 @@ fn decodes_as_the_slow_decoders(rt: HostRuntime) -> Result<(), Fail> {
 
 #[test]
 fn decodes_a_line_longer_than_the_room(rt: HostRuntime) -> Result<(), Fail> {
-    for len in 1000..1050usize {
+    for len in 4060..4110usize {
         let mut text = vec![in rt.alloc(); b'a'; len]?;
         text.extend_from_slice(b"=4D and more =\r\nthan that\r\n")?;
-        assert!(rt; reads_as_slow(rt.alloc(), &text, 2000)?);
-        assert!(rt; reads_as_slow(rt.alloc(), &text, 1018)?);
+        assert!(rt; reads_as_slow(rt.alloc(), &text, 5000)?);
+        assert!(rt; reads_as_slow(rt.alloc(), &text, 4080)?);
     }
     Ok(())
 }
 
-// Whether `input` is encoded as the slow encoder does it.
+// Whether `input` is encoded as the slow encoder does it, and read back.
 fn encodes_as_slow(
     alloc: Global,
     input: &[u8],
@@ -643,12 +575,17 @@ fn encodes_as_slow(
         InputMode::Binary
     };
     let options = Options::default().line_length_limit(limit).input_mode(mode);
-    let encoded = encode_with_options(alloc, input, options)?;
-    Ok(encoded.as_bytes() == want.as_slice())
+    let encoded = encode_with_options(alloc, input, options.clone()?)?;
+    let strict = options.parse_mode(ParseMode::Strict);
+    let same = match decode_with_options(alloc, encoded.as_bytes(), strict) {
+        Ok(back) => back.as_slice() == input,
+        Err(_) => false,
+    };
+    Ok(same && encoded.as_bytes() == want.as_slice())
 }
 
 #[test]
-fn encodes_every_cut_as_the_slow_encoder(rt: HostRuntime) -> Result<(), Fail> {
+fn encodes_as_the_slow_encoder(rt: HostRuntime) -> Result<(), Fail> {
     for seed in 0..300u32 {
         let input = mixed_pieces(rt.alloc(), 14, 12, seed)?;
         let limit = 6 + (seed % 75) as usize;
