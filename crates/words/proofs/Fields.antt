@@ -1,7 +1,8 @@
 -- What stands before the first byte that fails a test, where that byte is a question mark.
-use Rattle.std.proofs.Common.{◌≡◌, ℕ, ◌+◌, ◌-◌, ◌<◌, Bool, true, false, not, cond, nat_lt, Some, None, List, ◌∷◌, ◌++◌, length, get_or, take, drop, IsTrue, refl, sym, ap, ◌∙◌, arith}
+use Rattle.std.proofs.Common.{◌≡◌, ℕ, ◌+◌, ◌-◌, ◌<◌, Bool, true, false, not, cond, nat_lt, Option, Some, None, List, ◌∷◌, ◌++◌, length, get_or, take, drop, IsTrue, refl, sym, ap, ◌∙◌, arith}
 use Rattle.std.specs.List.{All, position, position_or_len}
-use Rattle.std.proofs.lemmas.Bool.{lt-ltb, not-false, cond-true}
+use Rattle.memchr.specs.Find.{is_byte2, IsFirstByte}
+use Rattle.std.proofs.lemmas.Bool.{lt-ltb, le-ltb, not-false, cond-true, false_from_ne_true}
 use Rattle.std.proofs.lemmas.List.{get_or_append_left, get_or_at, get_or-take, length-append, length-take, take-append-drop, drop_more, take_rest, get_or_default}
 use Rattle.std.proofs.lemmas.List.Quantifiers.{position-Some}
 use Rattle.std.proofs.lemmas.List.Sums.{position_or_len_is}
@@ -74,3 +75,25 @@ text-other s n e z t rest h q = z (run-ends is_text_byte refl s t rest n e h q).
 pub text-found : (s : List ℕ) (n : ℕ) → position (λ b. not (is_text_byte b)) s ≡ Some n → get_or s n 0 ≡ 63
     → IsText (take n s) × SplitsAtMark s (take n s) (take (length s - (n + 1)) (drop (n + 1) s))
 text-found s n e q = run-splits is_text_byte refl s n e q
+
+twice-not : (t : Bool) → not (not t) ≡ t
+twice-not true = refl
+twice-not false = refl
+
+-- where a search for a question mark or a space stops
+pub text-end : (s : List ℕ) (found : Option ℕ) → IsFirstByte (is_byte2 63 32) s found → found ≡ position (λ b. not (is_text_byte b)) s
+text-end s None h =
+    let p : ℕ → Bool = λ b. not (is_text_byte b) in
+    let e : position_or_len p s ≡ length s =
+    position_or_len_is p s (length s) 0 (omega arith)
+    (λ k l. twice-not (is_byte2 63 32 (get_or s k 0)) ∙ false_from_ne_true (is_byte2 63 32 (get_or s k 0)) (h k (omega arith) l))
+    (λ l. absurd (omega (arith, l))) in
+    sym (ap (λ z. cond (nat_lt z (length s)) (Some z) None) e ∙ ap (λ t. cond t (Some (length s)) None) (le-ltb (length s) (length s) (omega arith)))
+text-end s (Some k) h =
+    let p : ℕ → Bool = λ b. not (is_text_byte b) in
+    let within : k < length s = h.0.high in
+    let e : position_or_len p s ≡ k =
+    position_or_len_is p s k 0 (omega arith)
+    (λ j l. twice-not (is_byte2 63 32 (get_or s j 0)) ∙ false_from_ne_true (is_byte2 63 32 (get_or s j 0)) (h.0.before j (omega arith) l))
+    (λ l. twice-not (is_byte2 63 32 (get_or s k 0)) ∙ h.1) in
+    sym (ap (λ z. cond (nat_lt z (length s)) (Some z) None) e ∙ cond-true (nat_lt k (length s)) (Some k) None (lt-ltb k (length s) within))

@@ -11,3 +11,4 @@ pub mod Parsing
 pub mod Composition
 pub mod BitGroups
 pub mod BTexts
+pub mod Known

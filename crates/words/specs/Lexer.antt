@@ -2,12 +2,19 @@
 use Rattle.std.specs.Prelude.{◌≡◌, ℕ, ◌<◌, Bool, ◌&&◌, if◌then◌else◌, Some, None, List, [], ◌∷◌, ◌++◌, length, drop}
 use Rattle.std.specs.List.{list_all}
 use Rattle.words.specs.Word.{Word, spelling, word_at}
-use Rattle.words.specs.Reading.{Part, Clear, is_gap_byte}
+use Rattle.words.specs.Reading.{Part, Encoded, Clear, is_gap_byte}
 use Rattle.words.specs.declared.lexer.WordSlices.{WordSlices}
+use Rattle.words.specs.declared.lexer.TokenSlice.{TokenSlice}
+use Rattle.words.specs.declared.lexer.TokenSlice.TheVariants as slice
 
 -- the word that the slices show
 abbrev pub sliced_word : WordSlices → Word
 sliced_word slices = record { charset = slices.charset.now; encoding = slices.encoding.now; text = slices.encoded_text.now }
+
+-- the part that a token shows, where it stands in the header
+abbrev pub token_part : TokenSlice → Part
+token_part (slice.ClearText text) = Clear text.now
+token_part (slice.EncodedWord word) = Encoded (sliced_word word)
 
 -- a list of these bytes, a question mark and more
 abbrev pub SplitsAtMark : List ℕ → List ℕ → List ℕ → Type 0

@@ -10,3 +10,4 @@ pub mod Joined
 pub mod Header
 pub mod Parsed
 pub mod SpareBits
+pub mod Appends

@@ -1,5 +1,5 @@
 -- Words whose charsets and encodings are found, and their texts.
-use Rattle.std.specs.Prelude.{ℕ, Option, Result, Ok, Err, List, map, IsTrue, IfSome}
+use Rattle.std.specs.Prelude.{◌≡◌, ℕ, Option, Result, Ok, Err, List, map, IsTrue, IfSome}
 use Rattle.std.specs.Option.{option_map, option_map_or}
 use Rattle.enc_front.specs.declared.encoding.Encoding as front
 use Rattle.enc_front.specs.Indexes.{Indexes, known}
@@ -9,6 +9,9 @@ use Rattle.words.specs.declared.parser.Encoding.{Encoding}
 use Rattle.words.specs.declared.parser.ParserError.{ParserError}
 use Rattle.words.specs.declared.parser.ParsedEncodedWord.{ParsedEncodedWord}
 use Rattle.words.specs.declared.parser.ParsedEncodedWord.TheVariants as variant
+use Rattle.words.specs.declared.parser.ParsedSlice.{ParsedSlice}
+use Rattle.words.specs.declared.parser.LastCharset.{LastCharset}
+use Rattle.words.specs.declared.parser.ParsedSlice.TheVariants as slice
 use Rattle.words.specs.Word.{Word}
 use Rattle.words.specs.Reading.{Part, Encoded, Clear, Gap}
 use Rattle.words.specs.Encoding.{encoding_of}
@@ -29,6 +32,21 @@ parsed_of (variant.EncodedWord found encoding text) = ParsedWord (option_map cha
 abbrev pub IsKnown : Indexes → ParsedEncodedWord → Type 0
 IsKnown indexes (variant.ClearText text) = Unit {0}
 IsKnown indexes (variant.EncodedWord found encoding text) = IfSome found (λ charset. IsTrue (known (charsets.encoding_of charset) indexes))
+
+-- what a parsed word shows, where its text stands in the header
+abbrev pub sliced_of : ParsedSlice → Parsed
+sliced_of (slice.ClearText text) = ParsedClear text.now
+sliced_of (slice.EncodedWord found encoding text) = ParsedWord (option_map charsets.encoding_of found) encoding text.now
+
+-- the charset of that is one that the indexes have
+abbrev pub IsKnownSlice : Indexes → ParsedSlice → Type 0
+IsKnownSlice indexes (slice.ClearText text) = Unit {0}
+IsKnownSlice indexes (slice.EncodedWord found encoding text) = IfSome found (λ charset. IsTrue (known (charsets.encoding_of charset) indexes))
+
+-- the charset is that of the label, where the indexes have it
+pub record IsCharset (indexes : Indexes) (last : LastCharset) : Type 0 where
+  pub encoding : option_map charsets.encoding_of last.charset ≡ charset last.label.now indexes
+  pub known : IfSome last.charset (λ found. IsTrue (known (charsets.encoding_of found) indexes))
 
 -- a word under its encoding, or the error that its encoding field has
 abbrev pub under_encoding : Option front.Encoding → List ℕ → Result Encoding ParserError → Result Parsed ParserError

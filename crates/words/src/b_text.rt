@@ -47,10 +47,15 @@ fn padding_len(text: &[u8]) -> usize
     text.iter().rev().take_while(|byte| **byte == PAD).count()
 }
 
+// Each byte is looked at, whatever those before it are: so the loop goes by lanes.
 fn are_letters(bytes: &[u8]) -> bool
     ensures { result ≡ list_all is_letter bytes.now }
 {
-    bytes.iter().all(|byte| is_letter(*byte))
+    let mut all = true;
+    for byte in bytes {
+        all &= is_letter(*byte);
+    }
+    all
 }
 
 // Whether a text is in fours of letters, with at most two `=` in place of its last letters.
@@ -94,15 +99,21 @@ fn clear_spare_bits(text: &mut [u8])
 /// the last of which may have one or two `=` in place of its last letters. Spare bits of the
 /// last letter are dropped.
 ///
-/// It fails only for want of memory.
-pub fn decode(alloc: Global, mut text: Vec<u8>) -> Result<Option<Vec<u8>>, AllocError>
-    ensures value { IfOk result (λ found. option_map (λ v. v.items) found ≡ b_value text.items) }
+/// It fails only for want of memory. `spare` is free to change.
+pub fn decode(
+    alloc: Global,
+    text: &[u8],
+    spare: &mut Vec<u8>,
+) -> Result<Option<Vec<u8>>, AllocError>
+    ensures value { IfOk result (λ found. option_map (λ v. v.items) found ≡ b_value text.now) }
 {
-    if !is_base64(&text) {
+    if !is_base64(text) {
         return Ok(None);
     }
-    clear_spare_bits(&mut text);
-    match STANDARD.decode(alloc, &text) {
+    spare.clear();
+    spare.extend_from_slice(text)?;
+    clear_spare_bits(spare);
+    match STANDARD.decode(alloc, spare) {
         Ok(value) => Ok(Some(value)),
         Err(DecodeAllocError::DecodeError(_)) => unreachable!(),
         Err(DecodeAllocError::OutOfMemory) => Err(AllocError),

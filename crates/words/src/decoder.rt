@@ -130,12 +130,13 @@ impl Decoder {
         ensures text { IfOk result (λ text.
             header self.too_long_encoded_word (indexes_of tables.now) encoded_str.now
             ≡ Ok (string_bytes text)) }
-        ensures fault { IfErr result (λ error. (error ≡ Memory) ⊎ IsSomeAnd (fault_of error) (λ fault.
-            header self.too_long_encoded_word (indexes_of tables.now) encoded_str.now ≡ Err fault)) }
+        ensures fault { IfErr result (λ error. (error ≡ Memory) ⊎ IsSomeAnd (fault_of error)
+            (λ fault. header self.too_long_encoded_word (indexes_of tables.now) encoded_str.now
+            ≡ Err fault)) }
     {
-        let tokens = lexer::run(alloc, encoded_str, self.too_long_encoded_word)?;
-        let parsed = parser::run(alloc, tokens, tables)?;
-        let text = evaluator::run(alloc, parsed, tables)?;
+        let tokens = lexer::slices(alloc, encoded_str, self.too_long_encoded_word)?;
+        let parsed = parser::slices(alloc, tokens, tables)?;
+        let text = evaluator::text_of(alloc, parsed, tables)?;
         Ok(text)
     }
 }

@@ -1,17 +1,22 @@
 //! Headers as encoded words and clear text (RFC 2047, sections 2 and 6.2).
-ghost use Rattle.std.specs.Prelude.{◌≡◌, ℕ, not, ◌==◌, List, [], ◌++◌, length, map, Some, IfSome, IfNone, IfOk, IfErr, OnOk, string_bytes};
+ghost use Rattle.std.specs.Prelude.{◌≡◌, ℕ, not, ◌==◌, List, [], ◌++◌, length, map, Some};
+ghost use Rattle.std.specs.Prelude.{IfSome, IfNone, IfOk, IfErr, OnOk, string_bytes};
 ghost use Rattle.std.specs.List.{list_any, list_all, position};
 ghost use Rattle.std.specs.Option.{option_map};
-ghost use Rattle.words.specs.Word.{especials, is_field_byte, is_text_byte, IsField, IsText, spelling, word_at};
+ghost use Rattle.words.specs.Word.{especials, is_field_byte, is_text_byte, IsField, IsText};
+ghost use Rattle.words.specs.Word.{spelling, word_at};
 ghost use Rattle.words.specs.Reading.{Encoded, part_spelling, is_gap_byte, reading_of};
-ghost use Rattle.words.specs.Tokens.{long_words, too_long_words, display_text, part_tokens, tokens_of, word_of, part_of, TokenHasLen, comma_joined, texts_of, IsLexerFault};
-ghost use Rattle.words.specs.Lexer.{sliced_word, SplitsAtMark, NoWordBefore, IsFirstWord, text_tokens};
+ghost use Rattle.words.specs.Tokens.{long_words, too_long_words, display_text, part_tokens};
+ghost use Rattle.words.specs.Tokens.{tokens_of, word_of, part_of, is_too_long, TokenHasLen};
+ghost use Rattle.words.specs.Tokens.{comma_joined, texts_of, IsLexerFault};
+ghost use Rattle.words.specs.Lexer.{sliced_word, token_part, SplitsAtMark, NoWordBefore};
+ghost use Rattle.words.specs.Lexer.{IsFirstWord, text_tokens};
 
 pub mod encoded_word;
 
 use self::encoded_word::EncodedWord;
 use crate::strategy::RecoverStrategy;
-use memchr::memchr;
+use memchr::{memchr, memchr2};
 use std::alloc::{AllocError, Global};
 use std::fmt;
 use thiserror::Error;
@@ -47,13 +52,6 @@ fn is_token(byte: u8) -> bool
     byte > SPACE && byte != 0x7F && !is_especial(byte)
 }
 
-// Whether the byte may stand in an encoded text.
-fn is_encoded_text(byte: u8) -> bool
-    ensures { result ≡ is_text_byte byte }
-{
-    byte != QUESTION_MARK && byte != SPACE
-}
-
 // Where the first byte stands that may not stand in a field.
 fn token_end(bytes: &[u8]) -> Option<usize>
     ensures { result ≡ position (λ b. not (is_field_byte b)) bytes.now }
@@ -65,7 +63,7 @@ fn token_end(bytes: &[u8]) -> Option<usize>
 fn encoded_text_end(bytes: &[u8]) -> Option<usize>
     ensures { result ≡ position (λ b. not (is_text_byte b)) bytes.now }
 {
-    bytes.iter().position(|byte| !is_encoded_text(*byte))
+    memchr2(QUESTION_MARK, SPACE, bytes)
 }
 
 // The field that stands before the first question mark, and what follows it.
@@ -124,6 +122,15 @@ pub enum Token {
 
 /// The pieces of a header, in order.
 pub type Tokens = Vec<Token>;
+
+// A piece of a header where it stands in the header.
+#[derive(Clone, Copy)]
+pub(crate) enum TokenSlice<'a> {
+    // Bytes that are shown as they stand.
+    ClearText(&'a [u8]),
+    // An encoded word.
+    EncodedWord(WordSlices<'a>),
+}
 
 impl Token {
     /// How many bytes the token has: of a word, those of its spelling with its
@@ -209,7 +216,8 @@ struct FirstWord<'a> {
 // have no `=` and texts have no question mark, so the next `=?` stands at most
 // one byte before that one, and all attempts together are linear in the bytes.
 fn first_word(bytes: &[u8]) -> Option<FirstWord<'_>>
-    ensures found { IfSome result (λ f. IsFirstWord bytes.now f.before.now (sliced_word f.word) f.after.now) }
+    ensures found { IfSome result (λ f.
+        IsFirstWord bytes.now f.before.now (sliced_word f.word) f.after.now) }
     ensures spelled { IfSome result (λ f. f.word.spelling.now ≡ spelling (sliced_word f.word)) }
     ensures none { IfNone result (NoWordBefore bytes.now (length bytes.now)) }
 {
@@ -239,48 +247,49 @@ fn is_gap(text: &[u8]) -> bool
 }
 
 // Appends text outside of words, unless it is empty or a gap: white space alone between two words.
-fn push_clear_text(
-    alloc: Global,
-    tokens: &mut Tokens,
-    text: &[u8],
+fn push_clear_text<'a>(
+    tokens: &mut Vec<TokenSlice<'a>>,
+    text: &'a [u8],
     between_words: bool,
 ) -> Result<(), AllocError>
-    ensures { OnOk result
-        (map part_of tokens.new.items ≡ map part_of tokens.old.items ++ text_tokens between_words text.now) }
+    ensures { OnOk result (map token_part tokens.new.items
+        ≡ map token_part tokens.old.items ++ text_tokens between_words text.now) }
 {
     if text.is_empty() || (between_words && is_gap(text)) {
         return Ok(());
     }
-    tokens.push(Token::ClearText(text.to_vec(alloc)?))?;
+    tokens.push(TokenSlice::ClearText(text))?;
     Ok(())
 }
 
-// A word that is to be decoded.
-fn to_encoded_word(alloc: Global, word: &WordSlices) -> Result<EncodedWord, AllocError>
-    ensures { IfOk result (λ owned. word_of owned ≡ sliced_word word.now) }
+// Whether a word's spelling has more bytes than a word may have.
+fn is_too_long(word: &WordSlices) -> bool
+    ensures { result ≡ is_too_long (sliced_word word.now) }
 {
-    let charset = word.charset.to_vec(alloc)?;
-    let encoding = word.encoding.to_vec(alloc)?;
-    let encoded_text = word.encoded_text.to_vec(alloc)?;
-    Ok(EncodedWord::new(charset, encoding, encoded_text))
+    let fields = word
+        .charset
+        .len()
+        .saturating_add(word.encoding.len())
+        .saturating_add(word.encoded_text.len());
+    fields.saturating_add(EncodedWord::DELIMITERS_LENGTH) > EncodedWord::MAX_LENGTH
 }
 
 // Appends a word, as clear text where it is skipped.
-fn push_word(
-    alloc: Global,
-    tokens: &mut Tokens,
-    word: &WordSlices,
+fn push_word<'a>(
+    tokens: &mut Vec<TokenSlice<'a>>,
+    word: WordSlices<'a>,
     strategy: RecoverStrategy,
 ) -> Result<(), AllocError>
-    requires { word.now.spelling.now ≡ spelling (sliced_word word.now) }
-    ensures { OnOk result
-        (map part_of tokens.new.items ≡ map part_of tokens.old.items ++ part_tokens strategy (Encoded (sliced_word word.now))) }
+    requires { word.spelling.now ≡ spelling (sliced_word word) }
+    ensures { OnOk result (map token_part tokens.new.items
+        ≡ map token_part tokens.old.items
+        ++ part_tokens strategy (Encoded (sliced_word word.entry))) }
 {
     let too_long = word.spelling.len() > EncodedWord::MAX_LENGTH;
     let token = if too_long && strategy == RecoverStrategy::Skip {
-        Token::ClearText(word.spelling.to_vec(alloc)?)
+        TokenSlice::ClearText(word.spelling)
     } else {
-        Token::EncodedWord(to_encoded_word(alloc, word)?)
+        TokenSlice::EncodedWord(word)
     };
     tokens.push(token)?;
     Ok(())
@@ -291,32 +300,52 @@ fn tokenize(
     alloc: Global,
     encoded_bytes: &[u8],
     strategy: RecoverStrategy,
-) -> Result<Tokens, AllocError>
-    ensures { IfOk result (λ tokens. map part_of tokens.items ≡ tokens_of strategy (reading_of encoded_bytes.now)) }
+) -> Result<Vec<TokenSlice<'_>>, AllocError>
+    ensures { IfOk result (λ tokens.
+        map token_part tokens.items ≡ tokens_of strategy (reading_of encoded_bytes.now)) }
 {
     let mut tokens = Vec::new(alloc);
     let mut rest = encoded_bytes;
     let mut after_word = false;
     while let Some(first) = first_word(rest) {
-        push_clear_text(alloc, &mut tokens, first.before, after_word)?;
-        push_word(alloc, &mut tokens, &first.word, strategy)?;
+        push_clear_text(&mut tokens, first.before, after_word)?;
+        push_word(&mut tokens, first.word, strategy)?;
         rest = first.after;
         after_word = true;
     }
-    push_clear_text(alloc, &mut tokens, rest, false)?;
+    push_clear_text(&mut tokens, rest, false)?;
     Ok(tokens)
 }
 
+// A word that owns its fields.
+fn to_encoded_word(alloc: Global, word: &WordSlices) -> Result<EncodedWord, AllocError>
+    ensures { IfOk result (λ owned. word_of owned ≡ sliced_word word.now) }
+{
+    let charset = word.charset.to_vec(alloc)?;
+    let encoding = word.encoding.to_vec(alloc)?;
+    let encoded_text = word.encoded_text.to_vec(alloc)?;
+    Ok(EncodedWord::new(charset, encoding, encoded_text))
+}
+
+// The text of a word, as it is printed.
+fn printed(alloc: Global, word: &WordSlices) -> Result<String, AllocError>
+    ensures { IfOk result (λ text. string_bytes text ≡ display_text (sliced_word word.now)) }
+{
+    let owned = to_encoded_word(alloc, word)?;
+    owned.to_string(alloc)
+}
+
 // The texts of the tokens' words that are too long, in order.
-fn too_long_texts(alloc: Global, tokens: &[Token]) -> Result<Vec<String>, AllocError>
-    ensures { IfOk result (λ texts. map string_bytes texts.items ≡ map display_text (long_words (map part_of tokens.now))) }
+fn too_long_texts(alloc: Global, tokens: &[TokenSlice<'_>]) -> Result<Vec<String>, AllocError>
+    ensures { IfOk result (λ texts.
+        map string_bytes texts.items ≡ map display_text (long_words (map token_part tokens.now))) }
 {
     let mut texts = Vec::new(alloc);
     for token in tokens {
-        if let Token::EncodedWord(word) = token
-            && word.is_too_long()
+        if let TokenSlice::EncodedWord(word) = token
+            && is_too_long(word)
         {
-            texts.push(word.to_string(alloc)?)?;
+            texts.push(printed(alloc, word)?)?;
         }
     }
     Ok(texts)
@@ -325,22 +354,52 @@ fn too_long_texts(alloc: Global, tokens: &[Token]) -> Result<Vec<String>, AllocE
 // Refuses tokens with words that are too long, where the strategy is to abort.
 fn validate_tokens(
     alloc: Global,
-    tokens: Tokens,
+    tokens: &[TokenSlice<'_>],
     strategy: RecoverStrategy,
-) -> Result<Tokens, LexerError>
-    ensures same { IfOk result (λ valid. valid.items ≡ tokens.items) }
-    ensures none_too_long { OnOk result (too_long_words strategy (map part_of tokens.items) ≡ []) }
-    ensures fault { IfErr result (IsLexerFault (too_long_words strategy (map part_of tokens.items))) }
+) -> Result<(), LexerError>
+    ensures none_too_long { OnOk result (too_long_words strategy (map token_part tokens.now) ≡ []) }
+    ensures fault { IfErr result
+        (IsLexerFault (too_long_words strategy (map token_part tokens.now))) }
 {
     if strategy != RecoverStrategy::Abort {
-        return Ok(tokens);
+        return Ok(());
     }
-    let texts = too_long_texts(alloc, &tokens)?;
+    let texts = too_long_texts(alloc, tokens)?;
     if texts.is_empty() {
-        return Ok(tokens);
+        return Ok(());
     }
     let too_long = TooLongEncodedWords::new(texts);
     Err(LexerError::ParseEncodedWordTooLongError(too_long))
+}
+
+// The tokens that `run` gives, where they stand in the header.
+pub(crate) fn slices(
+    alloc: Global,
+    encoded_bytes: &[u8],
+    strategy: RecoverStrategy,
+) -> Result<Vec<TokenSlice<'_>>, LexerError>
+    ensures tokens { IfOk result (λ tokens.
+        map token_part tokens.items ≡ tokens_of strategy (reading_of encoded_bytes.now)) }
+    ensures none_too_long { OnOk result
+        (too_long_words strategy (reading_of encoded_bytes.now) ≡ []) }
+    ensures fault { IfErr result
+        (IsLexerFault (too_long_words strategy (reading_of encoded_bytes.now))) }
+{
+    let tokens = tokenize(alloc, encoded_bytes, strategy)?;
+    match validate_tokens(alloc, &tokens, strategy) {
+        Ok(()) => Ok(tokens),
+        Err(error) => Err(error),
+    }
+}
+
+// A token that owns its bytes.
+fn to_token(alloc: Global, token: &TokenSlice<'_>) -> Result<Token, AllocError>
+    ensures { IfOk result (λ owned. part_of owned ≡ token_part token.now) }
+{
+    match token {
+        TokenSlice::ClearText(text) => Ok(Token::ClearText(text.to_vec(alloc)?)),
+        TokenSlice::EncodedWord(word) => Ok(Token::EncodedWord(to_encoded_word(alloc, word)?)),
+    }
 }
 
 /// The tokens of a header: its encoded words and the clear text outside of
@@ -355,12 +414,27 @@ pub fn run(
     encoded_bytes: &[u8],
     strategy: RecoverStrategy,
 ) -> Result<Tokens, LexerError>
-    ensures tokens { IfOk result (λ tokens. map part_of tokens.items ≡ tokens_of strategy (reading_of encoded_bytes.now)) }
-    ensures none_too_long { OnOk result (too_long_words strategy (reading_of encoded_bytes.now) ≡ []) }
-    ensures fault { IfErr result (IsLexerFault (too_long_words strategy (reading_of encoded_bytes.now))) }
+    ensures tokens { IfOk result (λ tokens.
+        map part_of tokens.items ≡ tokens_of strategy (reading_of encoded_bytes.now)) }
+    ensures none_too_long { OnOk result
+        (too_long_words strategy (reading_of encoded_bytes.now) ≡ []) }
+    ensures fault { IfErr result
+        (IsLexerFault (too_long_words strategy (reading_of encoded_bytes.now))) }
 {
-    let tokens = tokenize(alloc, encoded_bytes, strategy)?;
-    validate_tokens(alloc, tokens, strategy)
+    let slices = slices(alloc, encoded_bytes, strategy)?;
+    let tokens = to_tokens(alloc, &slices)?;
+    Ok(tokens)
+}
+
+// Tokens that own their bytes.
+fn to_tokens(alloc: Global, slices: &[TokenSlice<'_>]) -> Result<Tokens, AllocError>
+    ensures { IfOk result (λ tokens. map part_of tokens.items ≡ map token_part slices.now) }
+{
+    let mut tokens = Vec::with_capacity(alloc, slices.len())?;
+    for slice in slices {
+        tokens.push(to_token(alloc, slice)?)?;
+    }
+    Ok(tokens)
 }
 
 #[cfg(test)]

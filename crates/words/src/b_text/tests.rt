@@ -45,8 +45,9 @@ const ROWS: [(&str, &[u8], Option<&[u8]>); 28] = [
 
 #[test]
 fn values_of_texts(rt: HostRuntime) -> Result<(), Fail> {
+    let mut spare = Vec::new(rt.alloc());
     for (name, text, octets) in ROWS {
-        let found = decode(rt.alloc(), text.to_vec(rt.alloc())?)?;
+        let found = decode(rt.alloc(), text, &mut spare)?;
         let shown = found.as_ref().map(|value| value.as_slice());
         assert_eq!(rt; shown, octets, "{name}");
     }

@@ -1,7 +1,7 @@
 use super::*;
-use crate::lexer::TooLongEncodedWords;
 use crate::strategy::RecoverStrategy::{Abort, Decode, Skip};
 use qp::QuotedPrintableError;
+use std::alloc::AllocError;
 use std::test::Fail;
 
 const WORD_75: &[u8] =
@@ -18,7 +18,7 @@ const TEXT_76: &str = "aaaaaaaaaaaaaaaaaaaaaaaaaaaaaaaaaaaaaaaaaaaaaaaaaaaaaaaaa
 const WORD_X: &str =
     "=?ISO-8859-1?X?aaaaaaaaaaaaaaaaaaaaaaaaaaaaaaaaaaaaaaaaaaaaaaaaaaaaaaaaaaaa?=";
 
-// A name, a header, and its text.
+// A name, a header, and its text under Abort.
 const ROWS: [(&str, &[u8], &str); 33] = [
     ("empty", b"", ""),
     ("clear text alone", b"str with spaces", "str with spaces"),
@@ -127,111 +127,115 @@ const ROWS: [(&str, &[u8], &str); 33] = [
     ("an empty Q text", b"=?utf-8?q??=b", "b"),
 ];
 
+// A name, a strategy, a header, whether it has a text, and that text or else the printed error.
+const BY_STRATEGY: [(&str, RecoverStrategy, &str, bool, &str); 11] = [
+    ("76 bytes, skipped", Skip, WORD_76, true, WORD_76),
+    ("76 bytes, decoded", Decode, WORD_76, true, TEXT_76),
+    ("a skipped field", Skip, WORD_X, true, WORD_X),
+    ("a short word", Skip, "=?UTF-8?Q?str?=", true, "str"),
+    (
+        "a gap",
+        Abort,
+        "=?ISO-8859-1?Q?a?= =?ISO-8859-1?Q?b?=",
+        true,
+        "ab",
+    ),
+    (
+        "no fours",
+        Abort,
+        "=?UTF-8?B?c3R?=",
+        false,
+        "the base64 text is wrong",
+    ),
+    (
+        "an unknown encoding",
+        Abort,
+        "=?utf-8?X?a?=",
+        false,
+        "cannot parse encoding X: B or Q is expected",
+    ),
+    (
+        "an encoding of two letters",
+        Abort,
+        "=?utf-8?QQ?a?=",
+        false,
+        "cannot parse encoding: encoding is bigger than a char",
+    ),
+    (
+        "the first of three faults",
+        Abort,
+        "=?a?B?c?= =?a?X?a?= =?a?QQ?a?=",
+        false,
+        "cannot parse encoding X: B or Q is expected",
+    ),
+    (
+        "an unknown encoding in a long word",
+        Decode,
+        WORD_X,
+        false,
+        "cannot parse encoding X: B or Q is expected",
+    ),
+    (
+        "too long words before other faults",
+        Abort,
+        "=?a?QQ?a?= =?ISO-8859-1?Q?aaaaaaaaaaaaaaaaaaaaaaaaaaaaaaaaaaaaaaaaaaaaaaaaaaaaaaaaaaa?= =?a?B?c?= =?ISO-8859-1?X?aaaaaaaaaaaaaaaaaaaaaaaaaaaaaaaaaaaaaaaaaaaaaaaaaaaaaaaaaaaa?=",
+        false,
+        "Cannot parse the following encoded words, because they are too long: =?ISO-8859-1?Q?aaaaaaaaaaaaaaaaaaaaaaaaaaaaaaaaaaaaaaaaaaaaaaaaaaaaaaaaaaa?=, =?ISO-8859-1?X?aaaaaaaaaaaaaaaaaaaaaaaaaaaaaaaaaaaaaaaaaaaaaaaaaaaaaaaaaaaa?=",
+    ),
+];
+
+// A header, and its printed error under Abort.
+const NOT_TEXT: [(&[u8], &str); 4] = [
+    (b"=?a?B?c?= \xFF", "the base64 text is wrong"),
+    (b"\xFF =?a?B?c?=", "clear text is not UTF-8 at byte 0"),
+    (b"\xFF\xFE", "clear text is not UTF-8 at byte 0"),
+    (
+        b"=?a?Q?a?=\xC3\xA4b\xE2\x82",
+        "clear text is not UTF-8 at byte 3",
+    ),
+];
+
+// Whether a header has a text, and that text or else the printed error.
+fn shown(
+    alloc: Global,
+    strategy: RecoverStrategy,
+    bytes: &[u8],
+) -> Result<(bool, String), AllocError> {
+    let decoder = Decoder::new().too_long_encoded_word_strategy(strategy);
+    match decoder.decode(alloc, &Tables::new(), bytes) {
+        Ok(text) => Ok((true, text)),
+        Err(error) => Ok((false, error.to_string(alloc)?)),
+    }
+}
+
 #[test]
 fn texts(rt: HostRuntime) -> Result<(), Fail> {
-    let tables = Tables::new();
     for (name, bytes, text) in ROWS {
-        let Ok(shown) = decode(rt.alloc(), &tables, bytes) else {
-            assert!(rt; false, "{name}");
-            return Ok(());
-        };
-        assert_eq!(rt; shown.as_str(), text, "{name}");
+        let (is_text, found) = shown(rt.alloc(), Abort, bytes)?;
+        assert!(rt; is_text && found.as_str() == text, "{name}");
+    }
+    for (name, strategy, header, wanted, text) in BY_STRATEGY {
+        let (is_text, found) = shown(rt.alloc(), strategy, header.as_bytes())?;
+        assert!(rt; is_text == wanted && found.as_str() == text, "{name}");
+    }
+    for (bytes, text) in NOT_TEXT {
+        let (is_text, found) = shown(rt.alloc(), Abort, bytes)?;
+        assert!(rt; !is_text && found.as_str() == text, "{bytes:?}");
     }
     Ok(())
 }
 
-fn text_by(alloc: Global, strategy: RecoverStrategy, bytes: &[u8]) -> Option<String> {
-    Decoder::new()
-        .too_long_encoded_word_strategy(strategy)
-        .decode(alloc, &Tables::new(), bytes)
-        .ok()
-}
-
 #[test]
-fn strategies(rt: HostRuntime) -> Result<(), Fail> {
+fn other_calls(rt: HostRuntime) -> Result<(), Fail> {
     let alloc = rt.alloc();
-    let skipped = text_by(alloc, Skip, WORD_76.as_bytes());
-    assert!(rt; skipped.as_deref() == Some(WORD_76));
-    let decoded = text_by(alloc, Decode, WORD_76.as_bytes());
-    assert!(rt; decoded.as_deref() == Some(TEXT_76));
-    let unknown = text_by(alloc, Skip, WORD_X.as_bytes());
-    assert!(rt; unknown.as_deref() == Some(WORD_X));
-    let short = text_by(alloc, Skip, b"=?UTF-8?Q?str?=");
-    assert!(rt; short.as_deref() == Some("str"));
-    let gap = text_by(alloc, Abort, b"=?ISO-8859-1?Q?a?= =?ISO-8859-1?Q?b?=");
-    assert!(rt; gap.as_deref() == Some("ab"));
+    let text = decode(alloc, &Tables::new(), b"=?UTF-8?Q?str?=")?;
+    assert_eq!(rt; text.as_str(), "str");
+    let base64 = Error::Evaluator(EvaluatorError::DecodeBase64Error);
+    assert!(rt; decode(alloc, &Tables::new(), b"=?a?B?c?=") == Err(base64));
     assert!(rt; Decoder::default() == Decoder::new());
-    Ok(())
-}
-
-fn error_by(alloc: Global, strategy: RecoverStrategy, bytes: &[u8]) -> Option<Error> {
-    let decoder = Decoder {
-        too_long_encoded_word: strategy,
-    };
-    decoder.decode(alloc, &Tables::new(), bytes).err()
-}
-
-fn not_utf8(valid_up_to: usize) -> Option<Error> {
-    Some(Error::Evaluator(EvaluatorError::DecodeUtf8Error { valid_up_to }))
-}
-
-#[test]
-fn errors(rt: HostRuntime) -> Result<(), Fail> {
-    let alloc = rt.alloc();
-    let too_big = Some(Error::Parser(ParserError::ParseEncodingTooBigError));
-    let unknown = Some(Error::Parser(ParserError::ParseEncodingError('X')));
-    let base64 = Some(Error::Evaluator(EvaluatorError::DecodeBase64Error));
-    assert_eq!(rt; error_by(alloc, Abort, b"=?UTF-8?B?c3R?="), base64);
-    assert_eq!(rt; error_by(alloc, Abort, b"=?utf-8?X?a?="), unknown);
-    assert_eq!(rt; error_by(alloc, Abort, b"=?utf-8?QQ?a?="), too_big);
-    assert_eq!(rt;
-        error_by(alloc, Abort, b"=?a?B?c?= =?a?X?a?= =?a?QQ?a?="),
-        unknown
-    );
-    assert_eq!(rt; error_by(alloc, Decode, WORD_X.as_bytes()), unknown);
-    assert_eq!(rt; error_by(alloc, Abort, b"=?a?B?c?= \xFF"), base64);
-    assert_eq!(rt; error_by(alloc, Abort, b"\xFF =?a?B?c?="), not_utf8(0));
-    assert_eq!(rt; error_by(alloc, Abort, b"\xFF\xFE"), not_utf8(0));
-    assert_eq!(rt;
-        error_by(alloc, Abort, b"=?a?Q?a?=\xC3\xA4b\xE2\x82"),
-        not_utf8(3)
-    );
-    Ok(())
-}
-
-#[test]
-fn too_long_words(rt: HostRuntime) -> Result<(), Fail> {
-    let alloc = rt.alloc();
-    let header = format!(in alloc; "=?a?QQ?a?= {WORD_76} =?a?B?c?= {WORD_X}")?;
-    let mut words = Vec::new(alloc);
-    words.push(String::from_str(alloc, WORD_76)?)?;
-    words.push(String::from_str(alloc, WORD_X)?)?;
-    let too_long = TooLongEncodedWords::new(words);
-    let error = Error::from(LexerError::ParseEncodedWordTooLongError(too_long));
-    let shown = format!(in alloc;
-        "Cannot parse the following encoded words, because they are too long: {WORD_76}, {WORD_X}"
-    )?;
-    assert_eq!(rt; error.to_string(alloc)?, shown);
-    assert_eq!(rt; error_by(alloc, Abort, header.as_bytes()), Some(error));
-    Ok(())
-}
-
-#[test]
-fn printed_errors(rt: HostRuntime) -> Result<(), Fail> {
-    let alloc = rt.alloc();
     assert_eq!(rt; Error::from(LexerError::Memory), Error::Memory);
     assert_eq!(rt; Error::from(ParserError::Memory), Error::Memory);
     assert_eq!(rt; Error::from(EvaluatorError::Memory), Error::Memory);
-    let parser = Error::from(ParserError::ParseEncodingError('X'));
-    assert_eq!(rt;
-        parser.to_string(alloc)?.as_str(),
-        "cannot parse encoding X: B or Q is expected"
-    );
-    let evaluator = Error::from(EvaluatorError::DecodeUtf8Error { valid_up_to: 3 });
-    assert_eq!(rt;
-        evaluator.to_string(alloc)?.as_str(),
-        "clear text is not UTF-8 at byte 3"
-    );
     let quoted = Error::Evaluator(EvaluatorError::DecodeQuotedPrintableError(
         QuotedPrintableError::IncompleteHexOctet,
     ));

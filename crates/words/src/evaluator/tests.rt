@@ -21,17 +21,6 @@ fn evaluated_words(rt: HostRuntime) -> Result<(), Fail> {
         run(alloc, cut, &tables),
         Err(EvaluatorError::DecodeBase64Error)
     );
-    Ok(())
-}
-
-#[test]
-fn printed_errors(rt: HostRuntime) -> Result<(), Fail> {
-    let alloc = rt.alloc();
-    let base64 = EvaluatorError::DecodeBase64Error;
-    assert_eq!(rt;
-        base64.to_string(alloc)?.as_str(),
-        "the base64 text is wrong"
-    );
     assert_eq!(rt;
         EvaluatorError::Memory.to_string(alloc)?.as_str(),
         "no memory"

@@ -2,7 +2,7 @@
 ghost use Rattle.std.specs.Prelude.{◌≡◌, [], ◌++◌, ◌==◌, length, min, if◌then◌else◌, IfOk, Some};
 ghost use Rattle.std.specs.Str.Lossy.{utf8_lossy, replacement_bytes};
 ghost use Rattle.words.specs.Word.{spelling};
-ghost use Rattle.words.specs.Tokens.{is_too_long, display_text, word_of, HasLen};
+ghost use Rattle.words.specs.Tokens.{display_text, word_of, HasLen};
 
 use super::QUESTION_MARK;
 use std::alloc::{AllocError, Global};
@@ -20,9 +20,6 @@ pub struct EncodedWord {
     pub encoded_text: Vec<u8>,
 }
 
-// How many bytes a spelling has besides the fields: two delimiters of two bytes, and two question marks.
-const DELIMITERS_LENGTH: usize = 6;
-
 impl EncodedWord {
     /// What stands before the charset field.
     pub const PREFIX: &'static str = "=?";
@@ -31,9 +28,14 @@ impl EncodedWord {
     /// The most bytes that a word's spelling may have (RFC 2047, section 2).
     pub const MAX_LENGTH: usize = 75;
 
+    // How many bytes a spelling has besides the fields: two delimiters of two bytes, and two
+    // question marks.
+    pub(crate) const DELIMITERS_LENGTH: usize = 6;
+
     /// The word with these fields.
     pub fn new(charset: Vec<u8>, encoding: Vec<u8>, encoded_text: Vec<u8>) -> EncodedWord
-        ensures { result ≡ record { charset = charset; encoding = encoding; encoded_text = encoded_text } }
+        ensures { result
+            ≡ record { charset = charset; encoding = encoding; encoded_text = encoded_text } }
     {
         EncodedWord {
             charset,
@@ -44,7 +46,8 @@ impl EncodedWord {
 
     /// The word with these fields: the charset, the encoding and the text.
     pub fn from_parser(parts: ((Vec<u8>, Vec<u8>), Vec<u8>)) -> EncodedWord
-        ensures { result ≡ record { charset = parts.0.0; encoding = parts.0.1; encoded_text = parts.1 } }
+        ensures { result
+            ≡ record { charset = parts.0.0; encoding = parts.0.1; encoded_text = parts.1 } }
     {
         let ((charset, encoding), encoded_text) = parts;
         EncodedWord::new(charset, encoding, encoded_text)
@@ -55,14 +58,10 @@ impl EncodedWord {
         requires { HasLen self.now }
         ensures { result ≡ length (spelling (word_of self.now)) }
     {
-        self.charset.len() + self.encoding.len() + self.encoded_text.len() + DELIMITERS_LENGTH
-    }
-
-    // Whether the spelling has more bytes than a word may have.
-    pub(crate) fn is_too_long(&self) -> bool
-        ensures { result ≡ is_too_long (word_of self.now) }
-    {
-        self.capacity() > EncodedWord::MAX_LENGTH
+        self.charset.len()
+            + self.encoding.len()
+            + self.encoded_text.len()
+            + EncodedWord::DELIMITERS_LENGTH
     }
 
     // How many bytes the spelling has, or the most that a `usize` holds.
@@ -73,14 +72,15 @@ impl EncodedWord {
             .len()
             .saturating_add(self.encoding.len())
             .saturating_add(self.encoded_text.len())
-            .saturating_add(DELIMITERS_LENGTH)
+            .saturating_add(EncodedWord::DELIMITERS_LENGTH)
     }
 
     /// The word's bytes: its spelling, or without delimiters its three fields
     /// with nothing between them.
     pub fn get_bytes(&self, alloc: Global, with_delimiters: bool) -> Result<Vec<u8>, AllocError>
         ensures { IfOk result (λ bytes. bytes.items ≡
-            (let w = word_of self.now in if with_delimiters then spelling w else w.charset ++ w.encoding ++ w.text)) }
+            (let w = word_of self.now in
+            if with_delimiters then spelling w else w.charset ++ w.encoding ++ w.text)) }
     {
         let mut bytes = Vec::with_capacity(alloc, self.capacity())?;
         if with_delimiters {

@@ -48,11 +48,6 @@ fn encoding_fields(rt: HostRuntime) -> Result<(), Fail> {
 #[test]
 fn printed_errors(rt: HostRuntime) -> Result<(), Fail> {
     let alloc = rt.alloc();
-    let too_big = ParserError::ParseEncodingTooBigError;
-    assert_eq!(rt;
-        too_big.to_string(alloc)?.as_str(),
-        "cannot parse encoding: encoding is bigger than a char"
-    );
     let empty = ParserError::ParseEncodingEmptyError;
     assert_eq!(rt;
         empty.to_string(alloc)?.as_str(),

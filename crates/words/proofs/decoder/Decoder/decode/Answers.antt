@@ -7,7 +7,7 @@ use Rattle.words.specs.declared.parser.ParserError.TheVariants as parser
 use Rattle.words.specs.declared.decoder.Error.{Error}
 use Rattle.words.specs.Fault.{from_lexer, from_parser, from_evaluator}
 use Rattle.words.specs.Header.{header}
-use Rattle.words.specs.Parsed.{Parsed, parsed_of, parsed_parts, parsed_texts}
+use Rattle.words.specs.Parsed.{Parsed, sliced_of, parsed_parts, parsed_texts}
 use Rattle.words.proofs.Composition.{IsHeaderError, header-parsed, header-lexer, header-parser, header-evaluator}
 use Rattle.words.proofs.decoder.Decoder.decode.Goals as goal
 
@@ -40,7 +40,7 @@ returns-in_err-text-clause-fault c =
     let strategy : RecoverStrategy = c.args.self.too_long_encoded_word in
     let indexes : Indexes = indexes_of c.args.tables.now in
     let s : List ℕ = c.args.encoded_str.now in
-    let parsed : List Parsed = map parsed_of c.in_ok-parsed.parsed.items in
+    let parsed : List Parsed = map sliced_of c.in_ok-parsed.parsed.items in
     if-err c.from_residual-in_err-text.result (from_evaluator c.in_err-text.field-0.0) (IsHeaderError (header strategy indexes s))
     (err_from_is_err_and c.from_residual-in_err-text.result c.from_residual-in_err-text.ensures.1)
     (header-evaluator (header strategy indexes s) (parsed_texts indexes parsed) c.in_err-text.field-0.0
@@ -53,6 +53,6 @@ returns-clause-text c =
     let strategy : RecoverStrategy = c.args.self.too_long_encoded_word in
     let indexes : Indexes = indexes_of c.args.tables.now in
     let s : List ℕ = c.args.encoded_str.now in
-    header-parsed strategy indexes s (map parsed_of c.in_ok-parsed.parsed.items) c.in_ok-tokens.ensures.none_too_long
+    header-parsed strategy indexes s (map sliced_of c.in_ok-parsed.parsed.items) c.in_ok-tokens.ensures.none_too_long
     (ap (parsed_parts indexes) (sym c.in_ok-tokens.ensures.tokens) ∙ c.in_ok-parsed.ensures.parsed)
     ∙ c.in_ok-text.ensures.text
