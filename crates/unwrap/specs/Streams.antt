@@ -15,6 +15,7 @@ use Rattle.unwrap.specs.declared.status.Status.TheVariants.{Done, NoTable, ReadF
 use Rattle.unwrap.specs.declared.text.CopyFault.{CopyFault}
 use Rattle.unwrap.specs.declared.text.CopyFault.TheVariants as fault
 use Rattle.unwrap.specs.Moves.{AppendsPrefix, Loses, LosesAtMost}
+use Rattle.unwrap.specs.TablesOf.{Files, WithTables}
 
 -- options of a command line as a reader's
 abbrev pub reader_of : ReaderOptions → Options
@@ -105,3 +106,8 @@ missing stream indexes = unknown_encoding (reader_of stream.reader) indexes
 -- what is written of a stream
 abbrev pub written : Stream → Indexes → Writing
 written stream indexes = writing (reader_of stream.reader) indexes stream.buffer stream.piece
+
+-- how `text` ends, by what a shelf tells of its files, a source has left and a sink has taken
+abbrev pub EndsText : Stream → Option Files → Option (List ℕ) → Option (List ℕ) → Option (List ℕ) → Option (List ℕ) → Status → Type 0
+EndsText stream files left left' taken taken' status =
+    WithTables stream.files files status (λ indexes. Streams (missing stream indexes) (written stream indexes) stream.reader.limit left left' taken taken' status)

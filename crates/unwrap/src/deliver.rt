@@ -47,7 +47,7 @@ pub trait Value {
             IsBeforeSource status → result.source ≡ source) };
 }
 
-/// Writes the value of a source's bytes to a sink.
+// Writes the value of a source's bytes to a sink.
 pub(crate) fn deliver<V: Value, S: Source, K: Sink>(
     alloc: Global,
     value: &V,

@@ -1,21 +1,36 @@
 //! The header text of a stream.
-ghost use Rattle.std.specs.Prelude.{◌≡◌, ◌<◌, ◌≤◌, Some, IfOk, IfErr, is_ok, length, string_bytes};
+ghost use Rattle.std.specs.Prelude.{◌≡◌, ◌≢◌, ◌<◌, ◌≤◌, [], Some, IfOk, IfErr, codes, is_ok, length, string_bytes};
+ghost use Rattle.clap.specs.Words.{app_of, found_of, first_of, rows_of};
 ghost use Rattle.enc_front.specs.Indexes.{indexes_of};
 ghost use Rattle.enc_io.specs.BuilderView.{options_of};
 ghost use Rattle.enc_io.specs.Options.{unknown_encoding};
 ghost use Rattle.enc_io.specs.ReaderView.{standing_of};
+ghost use Rattle.unwrap.specs.Asked.{stream_view, texts_of, unwrap_asked, unwrap_in};
+ghost use Rattle.unwrap.specs.Commands.{Gives};
+ghost use Rattle.unwrap.specs.Description.{unwrap_app};
+ghost use Rattle.unwrap.specs.Header.{EndsUnwrap};
 ghost use Rattle.unwrap.specs.HeaderErrors.{IsNoTable, error_status};
+ghost use Rattle.unwrap.specs.Status.{Counts, HasText, IsBeforeSource};
+ghost use Rattle.unwrap.specs.TablesOf.{TakesFiles};
 ghost use Rattle.unwrap.specs.Unwraps.{ReadsFresh, ShowsFresh, Unwraps, header_of};
+ghost use Rattle.unwrap.specs.Values.{strategy_of, strategy_read};
 
+use crate::command_line::description::{with_option, with_pieces, with_reader_options};
+use crate::command_line::matched::{Refusal, matches_in};
 use crate::command_line::options::StreamOptions;
-use crate::deliver::{Made, Value};
+use crate::command_line::values::first_given;
+use crate::command_line::{Command, HEADER_LIMIT};
+use crate::deliver::{Made, Value, deliver};
+use crate::devices::shelf::Shelf;
 use crate::devices::sink::Sink;
+use crate::indexes::tables_of;
 use crate::moving::zeroes;
-use crate::status::{ReadError, Status};
+use crate::status::{Finish, ReadError, Status};
 use crate::text::{CopyFault, builder_of, copy_text};
+use clap::ArgMatches;
 use enc_front::{Encoding, Tables};
 use enc_io::{BuildError, DecodeReaderBytes, DecodeReaderBytesBuilder, Failed, Source};
-use std::alloc::Global;
+use std::alloc::{AllocError, Global};
 use words::{Decoder, EvaluatorError, LexerError, ParserError, RecoverStrategy};
 
 /// A sink over a vector.
@@ -225,15 +240,15 @@ fn unwrap_reader<S: Source>(
     }
 }
 
-/// The header text of a stream's text, by these tables and the builder's options, read through a buffer
-/// of `buffer_len` bytes, at least 4, and in pieces of `piece_len` bytes, at least 1. The source is
-/// handed back.
+/// The header text of a stream's text, by these tables and the builder's options, read through a
+/// buffer of `buffer_len` bytes, at least 4, and in pieces of `piece_len` bytes, at least 1. The
+/// source is handed back.
 ///
 /// # Errors
 ///
-/// `NoTable` before any call on the source, exactly where the tables lack an index that the builder's
-/// encoding needs. Then `ReadFault` or `TooMuch`, whichever is met first. Then `Lexer`, `Parser` or
-/// `Evaluator`, as the header has a fault. `Memory` may come at any growth.
+/// `NoTable` before any call on the source, exactly where the tables lack an index that the
+/// builder's encoding needs. Then `ReadFault` or `TooMuch`, whichever is met first. Then `Lexer`,
+/// `Parser` or `Evaluator`, as the header has a fault. `Memory` may come at any growth.
 pub fn unwrap_header<S: Source>(
     alloc: Global,
     source: S,
@@ -281,7 +296,7 @@ pub fn unwrap_header<S: Source>(
     }
 }
 
-/// The header text of a stream, as the command line asks for it.
+// The header text of a stream, as the command line asks for it.
 #[derive(Clone, Copy)]
 pub(crate) struct Header<'a> {
     pub tables: &'a Tables,
@@ -332,4 +347,97 @@ impl Value for Header<'_> {
             source: unwrapped.source,
         }
     }
+}
+
+// `unwrap`.
+fn unwrap_command<'a>(alloc: Global) -> Result<clap::Command<'a>, AllocError>
+    ensures { IfOk result (λ c. app_of c ≡ unwrap_app) }
+{
+    let command = with_reader_options(alloc, clap::Command::new(alloc, "unwrap"))?;
+    let command = with_option(alloc, command, "strategy")?;
+    with_pieces(alloc, command)
+}
+
+// The strategy of a word.
+fn strategy_of(text: &str) -> Option<RecoverStrategy>
+    ensures { result ≡ strategy_of text.now }
+{
+    if text == "decode" {
+        return Some(RecoverStrategy::Decode);
+    }
+    if text == "skip" {
+        return Some(RecoverStrategy::Skip);
+    }
+    if text == "abort" {
+        return Some(RecoverStrategy::Abort);
+    }
+    None
+}
+
+// What is to be done with words that are too long; none where the word for it isn't known.
+fn strategy_given(matches: &ArgMatches<'_>) -> Option<RecoverStrategy>
+    ensures { result
+        ≡ strategy_read (first_of (codes "strategy") (rows_of (found_of matches.now))) }
+{
+    match first_given(matches, "strategy") {
+        Some(text) => strategy_of(text),
+        None => Some(RecoverStrategy::Abort),
+    }
+}
+
+// `unwrap`, by what was found.
+fn unwrap_given<'a>(alloc: Global, matches: &ArgMatches<'a>) -> Result<Command<'a>, Refusal>
+    ensures { Gives (unwrap_in (rows_of (found_of matches.now))) result }
+{
+    let Some(strategy) = strategy_given(matches) else {
+        return Err(Refusal::Usage);
+    };
+    match StreamOptions::given(alloc, matches, HEADER_LIMIT) {
+        Ok(options) => Ok(Command::Unwrap(options, strategy)),
+        Err(refusal) => Err(refusal),
+    }
+}
+
+// `unwrap`, by its words.
+pub(crate) fn unwrap_asked<'a>(alloc: Global, words: &'a [String]) -> Result<Command<'a>, Refusal>
+    ensures { Gives (unwrap_asked (texts_of words.entry.now)) result }
+{
+    let command = unwrap_command(alloc)?;
+    match matches_in(command, words) {
+        Ok(matches) => unwrap_given(alloc, &matches),
+        Err(refusal) => Err(refusal),
+    }
+}
+
+// Writes the header text of a stream's text.
+pub(crate) fn show<S: Source, F: Shelf, K: Sink>(
+    alloc: Global,
+    options: &StreamOptions<'_>,
+    strategy: RecoverStrategy,
+    shelf: &mut F,
+    source: S,
+    out: &mut K,
+) -> Finish<S>
+    ensures no_usage { result.status ≢ Status.Usage }
+    ensures unread { IsBeforeSource result.status → result.source ≡ source }
+    ensures counts { Counts result.status (S.faults source) (S.faults result.source)
+        (K.faults out.old) (K.faults out.new) }
+    ensures kept { ¬ HasText result.status → out.new ≡ out.old }
+    ensures shelf { (stream_view options.now).files ≡ [] → shelf.new ≡ shelf.old }
+    ensures files { TakesFiles (stream_view options.now).files (F.files shelf.old)
+        (F.files shelf.new) (F.faults shelf.old) (F.faults shelf.new) (F.calls shelf.old)
+        (F.calls shelf.new) result.status }
+    ensures delivers { EndsUnwrap (stream_view options.now) strategy (F.files shelf.old)
+        (S.left source) (S.left result.source) (K.taken out.old) (K.taken out.new) result.status }
+{
+    let tables = match tables_of(alloc, shelf, options.files.as_slice()) {
+        Ok(tables) => tables,
+        Err(status) => return Finish { status, source },
+    };
+    let header = Header {
+        tables: &tables,
+        options,
+        strategy,
+    };
+    deliver(alloc, &header, source, out)
 }

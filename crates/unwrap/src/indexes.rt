@@ -85,13 +85,13 @@ fn add_file<F: Shelf>(
     }
 }
 
-/// The indexes of files, which are fetched and added in their order.
-///
-/// # Statuses
-///
-/// Of the first file that gives none: `Shelf` where the shelf fails or the file is too long, then
-/// `BadIndex` for its first bad line, for a kind that is already there, or for its first faulty
-/// row. `Memory` may come at any growth.
+// The indexes of files, which are fetched and added in their order.
+//
+// # Statuses
+//
+// Of the first file that gives none: `Shelf` where the shelf fails or the file is too long, then
+// `BadIndex` for its first bad line, for a kind that is already there, or for its first faulty
+// row. `Memory` may come at any growth.
 pub(crate) fn tables_of<F: Shelf>(
     alloc: Global,
     shelf: &mut F,

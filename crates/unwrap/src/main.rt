@@ -25,7 +25,8 @@ use std::env::Env;
 use std::io::ErrorKind;
 use std::process::ExitCode;
 
-// The status of a command line that can't be had: of a word that isn't UTF-8, or for want of memory.
+// The status of a command line that can't be had: of a word that isn't UTF-8, or for want of
+// memory.
 fn words_status(kind: ErrorKind) -> Status
     ensures usage { kind ≡ ErrorKind.InvalidData → result ≡ Status.Usage }
     ensures memory { kind ≢ ErrorKind.InvalidData → result ≡ Status.Memory }

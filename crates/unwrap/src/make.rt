@@ -1,12 +1,23 @@
 //! A long header of words, made from a number, and the line that tells of it.
-ghost use Rattle.std.specs.Prelude.{◌≡◌, ◌+◌, ◌≤◌, ◌++◌, Some, IfOk, OnOk, string_bytes, sum};
+ghost use Rattle.std.specs.Prelude.{◌≡◌, ◌+◌, ◌≤◌, ◌++◌, Some, IfOk, IfSome, OnOk, codes, option_and_then, string_bytes, sum};
+ghost use Rattle.clap.specs.Words.{app_of, first_of, found_of, rows_of};
+ghost use Rattle.unwrap.specs.Asked.{make_asked, make_in, texts_of};
+ghost use Rattle.unwrap.specs.Commands.{Gives};
+ghost use Rattle.unwrap.specs.Description.{make_app};
 ghost use Rattle.unwrap.specs.Made.{Tells, TellsMade, WritesLine, line, made, part, separator, tell};
+ghost use Rattle.unwrap.specs.Numbers.{number_in};
 ghost use Rattle.unwrap.specs.Status.{Counts, HasText, IsBehindFiles};
 
+use crate::command_line::Command;
+use crate::command_line::description::with_one_value;
+use crate::command_line::matched::{Refusal, matches_in};
+use crate::command_line::options::Parts;
+use crate::command_line::values::{first_given, number_in};
 use crate::deliver::{Made, Value, deliver};
 use crate::devices::sink::Sink;
 use crate::header::{HeaderError, unwrap_header};
 use crate::status::{Finish, Status};
+use clap::ArgMatches;
 use enc_front::Tables;
 use enc_io::{DecodeReaderBytesBuilder, Failed, MemorySource, Source};
 use std::alloc::{AllocError, Global};
@@ -83,7 +94,8 @@ fn line_of(alloc: Global, input: usize, text: &[u8]) -> Result<Vec<u8>, AllocErr
     Ok(told.into_bytes())
 }
 
-// The line that tells of a header of so many bytes and of its text, or the status of what came in its place.
+// The line that tells of a header of so many bytes and of its text, or the status of what came in
+// its place.
 fn told(alloc: Global, input: usize, answer: Result<String, HeaderError>) -> Result<Vec<u8>, Status>
     ensures { Tells input answer result }
 {
@@ -176,13 +188,13 @@ fn write_line<K: Sink>(alloc: Global, header: Vec<u8>, out: &mut K) -> Status
     deliver(alloc, &summary, Unfailing::new(alloc, header), out).status
 }
 
-/// Makes a header of so many parts, and writes the line that tells of it and its text. The source is
-/// handed back as it was.
-///
-/// # Statuses
-///
-/// `WriteFault` where the sink failed; it then has a prefix of the line. `Memory` may come at any
-/// growth.
+// Makes a header of so many parts, and writes the line that tells of it and its text. The source
+// is handed back as it was.
+//
+// # Statuses
+//
+// `WriteFault` where the sink failed; it then has a prefix of the line. `Memory` may come at any
+// growth.
 pub(crate) fn write_made<S: Source, K: Sink>(
     alloc: Global,
     parts: u32,
@@ -208,6 +220,44 @@ pub(crate) fn write_made<S: Source, K: Sink>(
     };
     let status = write_line(alloc, header, out);
     Finish { status, source }
+}
+
+// `make`.
+fn make_command<'a>(alloc: Global) -> Result<clap::Command<'a>, AllocError>
+    ensures { IfOk result (λ c. app_of c ≡ make_app) }
+{
+    with_one_value(alloc, clap::Command::new(alloc, "make"), "parts")
+}
+
+// How many parts `make` is asked for; none where the text isn't a number from 1 to 20000.
+fn parts_given(matches: &ArgMatches<'_>) -> Option<u32>
+    ensures number { result ≡ option_and_then (number_in 1 20000)
+        (first_of (codes "parts") (rows_of (found_of matches.now))) }
+    ensures most { IfSome result (λ n. n ≤ 20000) }
+{
+    let text = first_given(matches, "parts")?;
+    number_in(text, 1, 20_000)
+}
+
+// `make`, by what was found.
+fn make_given<'a>(matches: &ArgMatches<'_>) -> Result<Command<'a>, Refusal>
+    ensures { Gives (make_in (rows_of (found_of matches.now))) result }
+{
+    match parts_given(matches) {
+        Some(number) => Ok(Command::Make(Parts { number })),
+        None => Err(Refusal::Usage),
+    }
+}
+
+// `make`, by its words.
+pub(crate) fn make_asked<'a>(alloc: Global, words: &'a [String]) -> Result<Command<'a>, Refusal>
+    ensures { Gives (make_asked (texts_of words.entry.now)) result }
+{
+    let command = make_command(alloc)?;
+    match matches_in(command, words) {
+        Ok(matches) => make_given(&matches),
+        Err(refusal) => Err(refusal),
+    }
 }
 
 #[cfg(test)]

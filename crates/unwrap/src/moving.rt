@@ -12,7 +12,7 @@ use std::alloc::{AllocError, Global};
 // The most bytes of one read.
 const PIECE: usize = 65_536;
 
-/// A vector of so many zeroes.
+// A vector of so many zeroes.
 pub(crate) fn zeroes(alloc: Global, len: usize) -> Result<Vec<u8>, AllocError>
     ensures { IfOk result (λ bytes. vec_len bytes ≡ len) }
 {
@@ -50,8 +50,8 @@ fn append_read<S: Source>(
 ///
 /// # Errors
 ///
-/// `ReadFault` where the source failed, `TooMuch` where it gave more than `limit` bytes. `Memory` may
-/// come at any growth.
+/// `ReadFault` where the source failed, `TooMuch` where it gave more than `limit` bytes. `Memory`
+/// may come at any growth.
 pub fn read_all<S: Source>(
     alloc: Global,
     source: &mut S,
@@ -79,8 +79,8 @@ pub fn read_all<S: Source>(
     }
 }
 
-/// Writes all bytes to a sink, which is given the whole rest at each call, and isn't called where none
-/// are left: it is called at most as often as there are bytes.
+/// Writes all bytes to a sink, which is given the whole rest at each call, and isn't called where
+/// none are left: it is called at most as often as there are bytes.
 ///
 /// # Errors
 ///

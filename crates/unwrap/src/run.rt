@@ -2,97 +2,29 @@
 ghost use Rattle.std.specs.Prelude.{◌≡◌, ◌≢◌, ◌⊎◌, [], Some, None};
 ghost use Rattle.std.specs.Io.KnownBytes.{Appends};
 ghost use Rattle.enc_io.specs.Faults.{Rose};
-ghost use Rattle.unwrap.specs.Asked.{asked, stream_view, texts_of};
+ghost use Rattle.unwrap.specs.Asked.{asked, texts_of};
 ghost use Rattle.unwrap.specs.Commands.{Keeps, MayHaveText, OnMake, OnQuoted, OnText, OnUnwrap, command_view, named};
 ghost use Rattle.unwrap.specs.Delivers.{Delivers};
-ghost use Rattle.unwrap.specs.Header.{unwrapped};
+ghost use Rattle.unwrap.specs.Header.{EndsUnwrap};
 ghost use Rattle.unwrap.specs.Made.{TellsMade};
 ghost use Rattle.unwrap.specs.Quoted.{quoted_value};
-ghost use Rattle.unwrap.specs.Status.{Counts, HasText, HasTextSoFar, IsBeforeSource, TellsTable, note_of};
-ghost use Rattle.unwrap.specs.Streams.{Streams, missing, written};
-ghost use Rattle.unwrap.specs.TablesOf.{TakesFiles, WithTables};
+ghost use Rattle.unwrap.specs.Status.{Counts, IsBeforeSource, note_of};
+ghost use Rattle.unwrap.specs.Streams.{EndsText};
+ghost use Rattle.unwrap.specs.TablesOf.{TakesFiles};
 
 use crate::command_line::matched::Refusal;
-use crate::command_line::options::StreamOptions;
 use crate::command_line::{Command, command_of};
 use crate::deliver::deliver;
 use crate::devices::shelf::Shelf;
 use crate::devices::sink::Sink;
-use crate::header::Header;
-use crate::indexes::tables_of;
+use crate::header::show;
 use crate::make::write_made;
 use crate::moving::write_all;
 use crate::quoted::Quoted;
 use crate::status::{Finish, Status};
-use crate::text::write_text;
+use crate::text::stream;
 use enc_io::Source;
 use std::alloc::Global;
-use words::RecoverStrategy;
-
-// Writes the header text of a stream's text.
-fn show<S: Source, F: Shelf, K: Sink>(
-    alloc: Global,
-    options: &StreamOptions<'_>,
-    strategy: RecoverStrategy,
-    shelf: &mut F,
-    source: S,
-    out: &mut K,
-) -> Finish<S>
-    ensures no_usage { result.status ≢ Status.Usage }
-    ensures unread { IsBeforeSource result.status → result.source ≡ source }
-    ensures counts { Counts result.status (S.faults source) (S.faults result.source)
-        (K.faults out.old) (K.faults out.new) }
-    ensures kept { ¬ HasText result.status → out.new ≡ out.old }
-    ensures shelf { (stream_view options.now).files ≡ [] → shelf.new ≡ shelf.old }
-    ensures files { TakesFiles (stream_view options.now).files (F.files shelf.old)
-        (F.files shelf.new) (F.faults shelf.old) (F.faults shelf.new) (F.calls shelf.old)
-        (F.calls shelf.new) result.status }
-    ensures delivers { WithTables (stream_view options.now).files (F.files shelf.old) result.status
-        (λ indexes. Delivers (unwrapped (stream_view options.now) strategy indexes)
-        options.now.reader.limit (S.left source) (S.left result.source) (K.taken out.old)
-        (K.taken out.new) result.status
-        × TellsTable (missing (stream_view options.now) indexes) result.status) }
-{
-    let tables = match tables_of(alloc, shelf, options.files.as_slice()) {
-        Ok(tables) => tables,
-        Err(status) => return Finish { status, source },
-    };
-    let header = Header {
-        tables: &tables,
-        options,
-        strategy,
-    };
-    deliver(alloc, &header, source, out)
-}
-
-// Writes the text of a stream.
-fn stream<S: Source, F: Shelf, K: Sink>(
-    alloc: Global,
-    options: &StreamOptions<'_>,
-    shelf: &mut F,
-    source: S,
-    out: &mut K,
-) -> Finish<S>
-    ensures no_usage { result.status ≢ Status.Usage }
-    ensures unread { IsBeforeSource result.status → result.source ≡ source }
-    ensures counts { Counts result.status (S.faults source) (S.faults result.source)
-        (K.faults out.old) (K.faults out.new) }
-    ensures kept { ¬ HasTextSoFar result.status → out.new ≡ out.old }
-    ensures shelf { (stream_view options.now).files ≡ [] → shelf.new ≡ shelf.old }
-    ensures files { TakesFiles (stream_view options.now).files (F.files shelf.old)
-        (F.files shelf.new) (F.faults shelf.old) (F.faults shelf.new) (F.calls shelf.old)
-        (F.calls shelf.new) result.status }
-    ensures streams { WithTables (stream_view options.now).files (F.files shelf.old) result.status
-        (λ indexes. Streams (missing (stream_view options.now) indexes)
-        (written (stream_view options.now) indexes) options.now.reader.limit (S.left source)
-        (S.left result.source) (K.taken out.old) (K.taken out.new) result.status) }
-{
-    let tables = match tables_of(alloc, shelf, options.files.as_slice()) {
-        Ok(tables) => tables,
-        Err(status) => return Finish { status, source },
-    };
-    write_text(alloc, &tables, options, source, out)
-}
 
 // Performs a command.
 fn perform<S: Source, F: Shelf, K: Sink>(
@@ -113,14 +45,11 @@ fn perform<S: Source, F: Shelf, K: Sink>(
         (F.files shelf.new) (F.faults shelf.old) (F.faults shelf.new) (F.calls shelf.old)
         (F.calls shelf.new) result.status }
     ensures unwrap { OnUnwrap (Some (command_view command.entry)) (λ stream strategy.
-        WithTables stream.files (F.files shelf.old) result.status (λ indexes. Delivers
-        (unwrapped stream strategy indexes) stream.reader.limit (S.left source)
-        (S.left result.source) (K.taken out.old) (K.taken out.new) result.status
-        × TellsTable (missing stream indexes) result.status)) }
+        EndsUnwrap stream strategy (F.files shelf.old) (S.left source) (S.left result.source)
+        (K.taken out.old) (K.taken out.new) result.status) }
     ensures text { OnText (Some (command_view command.entry)) (λ stream.
-        WithTables stream.files (F.files shelf.old) result.status (λ indexes. Streams
-        (missing stream indexes) (written stream indexes) stream.reader.limit (S.left source)
-        (S.left result.source) (K.taken out.old) (K.taken out.new) result.status)) }
+        EndsText stream (F.files shelf.old) (S.left source) (S.left result.source)
+        (K.taken out.old) (K.taken out.new) result.status) }
     ensures quoted { OnQuoted (Some (command_view command.entry)) (λ encodes options. Delivers
         (quoted_value encodes options) options.limit (S.left source) (S.left result.source)
         (K.taken out.old) (K.taken out.new) result.status) }
@@ -164,14 +93,11 @@ fn end<S: Source, F: Shelf, K: Sink>(
         (F.files shelf.new) (F.faults shelf.old) (F.faults shelf.new) (F.calls shelf.old)
         (F.calls shelf.new) result.status }
     ensures unwrap { OnUnwrap (asked (texts_of words.now)) (λ stream strategy.
-        WithTables stream.files (F.files shelf.old) result.status (λ indexes. Delivers
-        (unwrapped stream strategy indexes) stream.reader.limit (S.left source)
-        (S.left result.source) (K.taken out.old) (K.taken out.new) result.status
-        × TellsTable (missing stream indexes) result.status)) }
+        EndsUnwrap stream strategy (F.files shelf.old) (S.left source) (S.left result.source)
+        (K.taken out.old) (K.taken out.new) result.status) }
     ensures text { OnText (asked (texts_of words.now)) (λ stream.
-        WithTables stream.files (F.files shelf.old) result.status (λ indexes. Streams
-        (missing stream indexes) (written stream indexes) stream.reader.limit (S.left source)
-        (S.left result.source) (K.taken out.old) (K.taken out.new) result.status)) }
+        EndsText stream (F.files shelf.old) (S.left source) (S.left result.source)
+        (K.taken out.old) (K.taken out.new) result.status) }
     ensures quoted { OnQuoted (asked (texts_of words.now)) (λ encodes options. Delivers
         (quoted_value encodes options) options.limit (S.left source) (S.left result.source)
         (K.taken out.old) (K.taken out.new) result.status) }
@@ -191,7 +117,7 @@ fn end<S: Source, F: Shelf, K: Sink>(
     }
 }
 
-/// Tells a status in one line.
+// Tells a status in one line.
 pub(crate) fn tell<N: Sink>(status: &Status, notes: &mut N)
     ensures { ¬ Rose (N.faults notes.old) (N.faults notes.new)
         → Appends (N.taken notes.old) (N.taken notes.new) (note_of status.now) }
@@ -250,16 +176,13 @@ pub fn run<S: Source, F: Shelf, K: Sink, N: Sink>(
 
     // The header text of all that the source held.
     ensures unwrap { OnUnwrap (asked (texts_of words.now.items)) (λ stream strategy.
-        WithTables stream.files (F.files shelf.old) result.status (λ indexes. Delivers
-        (unwrapped stream strategy indexes) stream.reader.limit (S.left source)
-        (S.left result.source) (K.taken out.old) (K.taken out.new) result.status
-        × TellsTable (missing stream indexes) result.status)) }
+        EndsUnwrap stream strategy (F.files shelf.old) (S.left source) (S.left result.source)
+        (K.taken out.old) (K.taken out.new) result.status) }
 
     // The text of all that the source held.
     ensures text { OnText (asked (texts_of words.now.items)) (λ stream.
-        WithTables stream.files (F.files shelf.old) result.status (λ indexes. Streams
-        (missing stream indexes) (written stream indexes) stream.reader.limit (S.left source)
-        (S.left result.source) (K.taken out.old) (K.taken out.new) result.status)) }
+        EndsText stream (F.files shelf.old) (S.left source) (S.left result.source)
+        (K.taken out.old) (K.taken out.new) result.status) }
 
     // Quoted-printable text of all that the source held, or what it stands for.
     ensures quoted { OnQuoted (asked (texts_of words.now.items)) (λ encodes options. Delivers

@@ -34,8 +34,8 @@ fn words_of(alloc: Global, words: &[&str]) -> Result<Vec<String>, AllocError> {
     Ok(all)
 }
 
-// Runs a command over an input in memory, with devices of this step, of which one read and one write
-// fail; call 0 never comes.
+// Runs a command over an input in memory, with devices of this step, of which one read and one
+// write fail; call 0 never comes.
 fn run_once(
     alloc: Global,
     words: &[&str],

@@ -1,35 +1,48 @@
 //! The text of a stream.
-ghost use Rattle.std.specs.Prelude.{◌≡◌, ◌≢◌, ◌<◌, length, Err};
+ghost use Rattle.std.specs.Prelude.{◌≡◌, ◌≢◌, ◌<◌, [], Err, IfOk, length};
+ghost use Rattle.clap.specs.Words.{app_of, found_of, rows_of};
 ghost use Rattle.enc_front.specs.Indexes.{indexes_of};
 ghost use Rattle.enc_io.specs.BuilderView.{options_of};
 ghost use Rattle.enc_io.specs.Faults.{Rose};
 ghost use Rattle.enc_io.specs.Options.{unknown_encoding};
 ghost use Rattle.enc_io.specs.ReaderView.{standing_of};
+ghost use Rattle.unwrap.specs.Asked.{stream_view, text_asked, text_in, texts_of};
+ghost use Rattle.unwrap.specs.Commands.{Gives};
 ghost use Rattle.unwrap.specs.Copies.{Copies};
+ghost use Rattle.unwrap.specs.Description.{text_app};
 ghost use Rattle.unwrap.specs.Status.{Counts, HasTextSoFar, IsBeforeSource, IsBehindFiles};
-ghost use Rattle.unwrap.specs.Streams.{EndsCopy, Streams, copy_status, reader_of, writing};
+ghost use Rattle.unwrap.specs.Streams.{EndsCopy, EndsText, Streams, copy_status, reader_of, writing};
+ghost use Rattle.unwrap.specs.TablesOf.{TakesFiles};
 
+use crate::command_line::description::{with_pieces, with_reader_options};
+use crate::command_line::matched::{Refusal, matches_in};
 use crate::command_line::options::{ReaderOptions, StreamOptions};
+use crate::command_line::{Command, MOST};
+use crate::devices::shelf::Shelf;
 use crate::devices::sink::Sink;
+use crate::indexes::tables_of;
 use crate::moving::{write_all, zeroes};
 use crate::status::{Finish, Status};
+use clap::ArgMatches;
 use enc_front::Tables;
 use enc_io::{DecodeReaderBytes, DecodeReaderBytesBuilder, Failed, ReadError, Source};
-use std::alloc::Global;
+use std::alloc::{AllocError, Global};
 
 /// Why a copy of a stream's text ended before its end.
 #[derive(Clone, Copy, Debug, PartialEq, Eq)]
 pub enum CopyFault {
-    /// The source failed. The sink has all that the reader handed out, and the reader may be read on.
+    /// The source failed. The sink has all that the reader handed out, and the reader may be read
+    /// on.
     ReadFault,
-    /// The source gave more bytes than the reader's limit. The sink has all that the reader handed out.
+    /// The source gave more bytes than the reader's limit. The sink has all that the reader handed
+    /// out.
     TooMuch,
     /// The sink failed. It has a prefix of what the reader handed out.
     WriteFault,
 }
 
-/// Writes all that a reader has still to give, piece by piece, and answers how many bytes these are, or
-/// `u64::MAX` where they are more. `piece` isn't empty. It takes no memory.
+/// Writes all that a reader has still to give, piece by piece, and answers how many bytes these
+/// are, or `u64::MAX` where they are more. `piece` isn't empty. It takes no memory.
 ///
 /// # Errors
 ///
@@ -43,7 +56,8 @@ pub fn copy_text<S: Source, K: Sink>(
     ensures copies { Copies (standing_of reader.old) (standing_of reader.new) (K.taken out.old)
         (K.taken out.new) (length piece.old) result }
     ensures counted { result ≢ Err CopyFault.WriteFault → K.faults out.new ≡ K.faults out.old }
-    ensures failed { result ≡ Err CopyFault.WriteFault → Rose (K.faults out.old) (K.faults out.new) }
+    ensures failed { result ≡ Err CopyFault.WriteFault
+        → Rose (K.faults out.old) (K.faults out.new) }
 {
     let mut count: u64 = 0;
     loop {
@@ -60,7 +74,7 @@ pub fn copy_text<S: Source, K: Sink>(
     }
 }
 
-/// A builder of readers with these options.
+// A builder of readers with these options.
 pub(crate) fn builder_of(options: &ReaderOptions) -> DecodeReaderBytesBuilder
     ensures { options_of result ≡ reader_of options.now }
 {
@@ -110,7 +124,7 @@ fn write_all_text<S: Source, K: Sink>(
     }
 }
 
-/// Writes the text of a stream as it reads.
+// Writes the text of a stream as it reads.
 pub(crate) fn write_text<S: Source, K: Sink>(
     alloc: Global,
     tables: &Tables,
@@ -158,6 +172,62 @@ pub(crate) fn write_text<S: Source, K: Sink>(
             }
         }
     }
+}
+
+// `text`.
+fn text_command<'a>(alloc: Global) -> Result<clap::Command<'a>, AllocError>
+    ensures { IfOk result (λ c. app_of c ≡ text_app) }
+{
+    let command = with_reader_options(alloc, clap::Command::new(alloc, "text"))?;
+    with_pieces(alloc, command)
+}
+
+// `text`, by what was found.
+fn text_given<'a>(alloc: Global, matches: &ArgMatches<'a>) -> Result<Command<'a>, Refusal>
+    ensures { Gives (text_in (rows_of (found_of matches.now))) result }
+{
+    match StreamOptions::given(alloc, matches, MOST) {
+        Ok(options) => Ok(Command::StreamText(options)),
+        Err(refusal) => Err(refusal),
+    }
+}
+
+// `text`, by its words.
+pub(crate) fn text_asked<'a>(alloc: Global, words: &'a [String]) -> Result<Command<'a>, Refusal>
+    ensures { Gives (text_asked (texts_of words.entry.now)) result }
+{
+    let command = text_command(alloc)?;
+    match matches_in(command, words) {
+        Ok(matches) => text_given(alloc, &matches),
+        Err(refusal) => Err(refusal),
+    }
+}
+
+// Writes the text of a stream.
+pub(crate) fn stream<S: Source, F: Shelf, K: Sink>(
+    alloc: Global,
+    options: &StreamOptions<'_>,
+    shelf: &mut F,
+    source: S,
+    out: &mut K,
+) -> Finish<S>
+    ensures no_usage { result.status ≢ Status.Usage }
+    ensures unread { IsBeforeSource result.status → result.source ≡ source }
+    ensures counts { Counts result.status (S.faults source) (S.faults result.source)
+        (K.faults out.old) (K.faults out.new) }
+    ensures kept { ¬ HasTextSoFar result.status → out.new ≡ out.old }
+    ensures shelf { (stream_view options.now).files ≡ [] → shelf.new ≡ shelf.old }
+    ensures files { TakesFiles (stream_view options.now).files (F.files shelf.old)
+        (F.files shelf.new) (F.faults shelf.old) (F.faults shelf.new) (F.calls shelf.old)
+        (F.calls shelf.new) result.status }
+    ensures streams { EndsText (stream_view options.now) (F.files shelf.old)
+        (S.left source) (S.left result.source) (K.taken out.old) (K.taken out.new) result.status }
+{
+    let tables = match tables_of(alloc, shelf, options.files.as_slice()) {
+        Ok(tables) => tables,
+        Err(status) => return Finish { status, source },
+    };
+    write_text(alloc, &tables, options, source, out)
 }
 
 #[cfg(test)]

@@ -4,8 +4,8 @@ ghost use Rattle.unwrap.specs.Values.{kind_in, kind_of, rows_of};
 
 use enc_front::{IndexKind, SingleName};
 
-// The word for each kind of index: for those of encodings of one byte a scalar, the encoding's name in
-// lower case.
+// The word for each kind of index: for those of encodings of one byte a scalar, the encoding's name
+// in lower case.
 pub(crate) const KIND_WORDS: [(&str, IndexKind); 26] = [
     ("big5", IndexKind::Big5),
     ("euc-kr", IndexKind::EucKr),
@@ -47,7 +47,7 @@ fn kind_in(rows: &[(&str, IndexKind)], word: &str) -> Option<IndexKind>
     None
 }
 
-/// The kind of an index by its word.
+// The kind of an index by its word.
 pub(super) fn kind_of(word: &str) -> Option<IndexKind>
     ensures { result ≡ kind_of word.now }
 {

@@ -8,12 +8,12 @@ use clap::error::ErrorKind;
 use clap::{ArgMatches, Command, Error};
 use std::alloc::{AllocError, AllocFailed};
 
-/// Why a command line gave no command.
+// Why a command line gave no command.
 #[derive(Clone, Copy, Debug, PartialEq, Eq)]
 pub(crate) enum Refusal {
-    /// The words are no use of a command, or a value is not of its form.
+    // The words are no use of a command, or a value is not of its form.
     Usage,
-    /// Out of memory.
+    // Out of memory.
     Memory,
 }
 
@@ -44,8 +44,8 @@ impl From<Error> for Refusal {
     }
 }
 
-/// What a description finds in the words, of which the first is passed over.
-pub(super) fn matches_in<'a>(
+// What a description finds in the words, of which the first is passed over.
+pub(crate) fn matches_in<'a>(
     command: Command<'a>,
     words: &'a [String],
 ) -> Result<ArgMatches<'a>, Refusal>

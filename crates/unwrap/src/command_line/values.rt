@@ -1,11 +1,11 @@
 //! The values that `clap` found, each read by its form.
-ghost use Rattle.std.specs.Prelude.{◌≡◌, ◌≤◌, Some, None, IfSome, codes, map, MatchResult, option_and_then, option_map, unwrap_or, []};
+ghost use Rattle.std.specs.Prelude.{◌≡◌, ◌≤◌, Some, None, IfSome, codes, map, MatchResult, option_map, unwrap_or, []};
 ghost use Rattle.std.specs.Char.{is_ascii_digit};
 ghost use Rattle.std.specs.List.{list_all};
 ghost use Rattle.clap.specs.Walk.{texts};
 ghost use Rattle.clap.specs.Words.{all_of, first_of, found_of, one_of, rows_of};
 ghost use Rattle.unwrap.specs.Numbers.{is_number_text, number_in, number_of, number_read};
-ghost use Rattle.unwrap.specs.Values.{encoding_read, file_of, file_view, files_read, is_true_text, kind_of, named_file, strategy_of, strategy_read};
+ghost use Rattle.unwrap.specs.Values.{encoding_read, file_of, file_view, files_read, is_true_text, kind_of, named_file};
 ghost use Rattle.unwrap.specs.declared.command_line.matched.Refusal.TheVariants.{Usage};
 
 use crate::command_line::kinds::kind_of;
@@ -14,17 +14,16 @@ use crate::command_line::options::IndexFile;
 use clap::ArgMatches;
 use enc_front::Encoding;
 use std::alloc::Global;
-use words::RecoverStrategy;
 
 // The first value of `id`.
-fn first_given<'a>(matches: &ArgMatches<'a>, id: &str) -> Option<&'a str>
+pub(crate) fn first_given<'a>(matches: &ArgMatches<'a>, id: &str) -> Option<&'a str>
     ensures { option_map (λ s. s.now) result ≡ first_of id.now (rows_of (found_of matches.now)) }
 {
     matches.get_str(id)
 }
 
-/// Whether the flag was given.
-pub(super) fn flag_given(matches: &ArgMatches<'_>, id: &str) -> bool
+// Whether the flag was given.
+pub(crate) fn flag_given(matches: &ArgMatches<'_>, id: &str) -> bool
     ensures { result ≡ is_true_text (one_of id.now (rows_of (found_of matches.now))) }
 {
     matches.get_one::<bool>(id).unwrap_or(false)
@@ -57,7 +56,7 @@ fn number_of(text: &str) -> Option<u32>
 }
 
 // The number from `least` to `most` that a text writes.
-fn number_in(text: &str, least: u32, most: u32) -> Option<u32>
+pub(crate) fn number_in(text: &str, least: u32, most: u32) -> Option<u32>
     ensures number { result ≡ number_in least most text.now }
     ensures least { IfSome result (λ n. least ≤ n) }
     ensures most { IfSome result (λ n. n ≤ most) }
@@ -72,9 +71,9 @@ fn number_in(text: &str, least: u32, most: u32) -> Option<u32>
     Some(number)
 }
 
-/// The number of an option, from `least` to `most`, or `default` where it isn't given; none where its
-/// text isn't such a number.
-pub(super) fn number_given(
+// The number of an option, from `least` to `most`, or `default` where it isn't given; none where
+// its text isn't such a number.
+pub(crate) fn number_given(
     matches: &ArgMatches<'_>,
     id: &str,
     least: u32,
@@ -92,8 +91,8 @@ pub(super) fn number_given(
     }
 }
 
-/// The encoding that is asked for, if one is; none where the label names no encoding.
-pub(super) fn encoding_given(matches: &ArgMatches<'_>) -> Option<Option<Encoding>>
+// The encoding that is asked for, if one is; none where the label names no encoding.
+pub(crate) fn encoding_given(matches: &ArgMatches<'_>) -> Option<Option<Encoding>>
     ensures { result
         ≡ encoding_read (first_of (codes "encoding") (rows_of (found_of matches.now))) }
 {
@@ -104,43 +103,6 @@ pub(super) fn encoding_given(matches: &ArgMatches<'_>) -> Option<Option<Encoding
         Some(encoding) => Some(Some(encoding)),
         None => None,
     }
-}
-
-// The strategy of a word.
-fn strategy_of(text: &str) -> Option<RecoverStrategy>
-    ensures { result ≡ strategy_of text.now }
-{
-    if text == "decode" {
-        return Some(RecoverStrategy::Decode);
-    }
-    if text == "skip" {
-        return Some(RecoverStrategy::Skip);
-    }
-    if text == "abort" {
-        return Some(RecoverStrategy::Abort);
-    }
-    None
-}
-
-/// What is to be done with words that are too long; none where the word for it isn't known.
-pub(super) fn strategy_given(matches: &ArgMatches<'_>) -> Option<RecoverStrategy>
-    ensures { result
-        ≡ strategy_read (first_of (codes "strategy") (rows_of (found_of matches.now))) }
-{
-    match first_given(matches, "strategy") {
-        Some(text) => strategy_of(text),
-        None => Some(RecoverStrategy::Abort),
-    }
-}
-
-/// How many parts `make` is asked for; none where the text isn't a number from 1 to 20000.
-pub(super) fn parts_given(matches: &ArgMatches<'_>) -> Option<u32>
-    ensures number { result ≡ option_and_then (number_in 1 20000)
-        (first_of (codes "parts") (rows_of (found_of matches.now))) }
-    ensures most { IfSome result (λ n. n ≤ 20000) }
-{
-    let text = first_given(matches, "parts")?;
-    number_in(text, 1, 20_000)
 }
 
 // The file of this name, where it has one, of the kind of this word.
@@ -180,14 +142,14 @@ fn files_of<'a>(alloc: Global, words: &[&'a str]) -> Result<Vec<IndexFile<'a>>, 
     Ok(files)
 }
 
-/// The index files that are named.
-pub(super) fn files_given<'a>(
+// The index files that are named.
+pub(crate) fn files_given<'a>(
     alloc: Global,
     matches: &ArgMatches<'a>,
 ) -> Result<Vec<IndexFile<'a>>, Refusal>
     ensures { MatchResult result
-        (λ files. files_read (unwrap_or (all_of (codes "index") (rows_of (found_of matches.now))) [])
-        ≡ Some (map file_view files.items))
+        (λ files. files_read (unwrap_or (all_of (codes "index")
+        (rows_of (found_of matches.now))) []) ≡ Some (map file_view files.items))
         (λ e. e ≡ Usage → files_read (unwrap_or (all_of (codes "index")
         (rows_of (found_of matches.now))) []) ≡ None) }
 {

@@ -6,7 +6,7 @@ ghost use Rattle.unwrap.specs.Files.{file, IsShortFile, IsLongFile};
 
 use std::alloc::{AllocError, Global};
 
-/// The most bytes of a file.
+// The most bytes of a file.
 pub(crate) const MOST_BYTES: usize = 4_194_304;
 
 /// Why a file could not be fetched.
@@ -51,9 +51,9 @@ pub trait Shelf {
     ///
     /// # Errors
     ///
-    /// `Failed` where the count of faults rose or stands at its last value, and always where no file
-    /// has this name; else `TooLong` exactly where the file has more than 4,194,304 bytes. `Memory`
-    /// may come at any growth.
+    /// `Failed` where the count of faults rose or stands at its last value, and always where no
+    /// file has this name; else `TooLong` exactly where the file has more than 4,194,304 bytes.
+    /// `Memory` may come at any growth.
     fn fetch(&mut self, alloc: Global, name: &str) -> Result<Vec<u8>, ShelfError>
         ensures found { IfOk result (λ bytes.
             IfSome (files self.old) (λ all. file all name.now ≡ Some bytes.items)) }

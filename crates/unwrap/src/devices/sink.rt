@@ -9,8 +9,8 @@ use enc_io::Failed;
 
 /// Where bytes go.
 ///
-/// A sink has the bytes taken, where it tells that, a count of faults that never falls, and a number
-/// of calls. Whether it tells does not change.
+/// A sink has the bytes taken, where it tells that, a count of faults that never falls, and a
+/// number of calls. Whether it tells does not change.
 pub trait Sink {
     /// The bytes taken, or nothing where the sink does not tell.
     ghost taken: { Self → Option (List ℕ) };

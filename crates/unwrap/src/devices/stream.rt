@@ -11,7 +11,8 @@ use std::io::{Error, ErrorKind, Write};
 use std::marker::Model;
 
 /// A sink over a writer, as of a file or standard output, which it flushes after each write. It
-/// tells nothing, and keeps counts of its failures and of its calls, which stand still at `u64::MAX`.
+/// tells nothing, and keeps counts of its failures and of its calls, which stand still at
+/// `u64::MAX`.
 #[derive(Drop)]
 pub struct StreamSink<W> {
     writer: W,
@@ -62,8 +63,8 @@ impl<W: Write> Sink for StreamSink<W> {
 
     ghost calls = { λ s. s.calls };
 
-    /// A flush that fails counts as a write that fails, and so does a writer that takes nothing of a
-    /// nonempty piece.
+    /// A flush that fails counts as a write that fails, and so does a writer that takes nothing of
+    /// a nonempty piece.
     fn write(&mut self, piece: &[u8]) -> Result<usize, Failed>
         // As of every sink.
         ensures within { WritesAtMost result piece.now }

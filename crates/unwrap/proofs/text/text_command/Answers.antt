@@ -2,7 +2,7 @@ use Rattle.std.proofs.Common.{ap, ◌∙◌}
 use Rattle.std.proofs.lemmas.Result.{IfOk-weaker}
 use Rattle.clap.specs.Words.{App}
 use Rattle.unwrap.specs.Description.{pieces, reader_options, text_app, with_rules}
-use Rattle.unwrap.proofs.command_line.description.text_command.Goals as goal
+use Rattle.unwrap.proofs.text.text_command.Goals as goal
 
 pub returns : goal.returns
 unfolding text_app

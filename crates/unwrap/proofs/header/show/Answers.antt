@@ -11,7 +11,7 @@ use Rattle.unwrap.specs.Values.{file_view}
 use Rattle.enc_front.specs.Indexes.{Indexes}
 use Rattle.unwrap.proofs.Ended.{delivers_memory}
 use Rattle.unwrap.proofs.FilesTaken.{behind_no_usage, files_counts, of_files_no_usage, takes_made, tells_memory, with_made, with_refused}
-use Rattle.unwrap.proofs.run.show.Goals as goal
+use Rattle.unwrap.proofs.header.show.Goals as goal
 
 pub returns-in-Err-clause-no_usage : goal.returns-in-Err-clause-no_usage
 returns-in-Err-clause-no_usage g c = of_files_no_usage _ c.in-Err.ensures.makes.0

@@ -2,7 +2,7 @@ use Rattle.std.proofs.Common.{ap, ◌∙◌, codes}
 use Rattle.std.proofs.lemmas.Result.{IfOk-weaker}
 use Rattle.clap.specs.Words.{App, with_rule}
 use Rattle.unwrap.specs.Description.{make_app, one_value}
-use Rattle.unwrap.proofs.command_line.description.make_command.Goals as goal
+use Rattle.unwrap.proofs.make.make_command.Goals as goal
 
 pub returns : goal.returns
 unfolding make_app

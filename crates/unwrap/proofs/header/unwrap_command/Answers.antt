@@ -2,7 +2,7 @@ use Rattle.std.proofs.Common.{ap, ◌∙◌, codes}
 use Rattle.std.proofs.lemmas.Result.{IfOk-weaker}
 use Rattle.clap.specs.Words.{App, with_rule}
 use Rattle.unwrap.specs.Description.{option, pieces, reader_options, unwrap_app, with_rules}
-use Rattle.unwrap.proofs.command_line.description.unwrap_command.Goals as goal
+use Rattle.unwrap.proofs.header.unwrap_command.Goals as goal
 
 pub returns : goal.returns
 unfolding unwrap_app

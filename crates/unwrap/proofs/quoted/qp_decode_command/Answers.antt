@@ -2,7 +2,7 @@ use Rattle.std.proofs.Common.{ap, ◌∙◌, codes}
 use Rattle.std.proofs.lemmas.Result.{IfOk-weaker}
 use Rattle.clap.specs.Words.{App, with_rule}
 use Rattle.unwrap.specs.Description.{flag, option, qp_decode_app}
-use Rattle.unwrap.proofs.command_line.description.qp_decode_command.Goals as goal
+use Rattle.unwrap.proofs.quoted.qp_decode_command.Goals as goal
 
 pub returns : goal.returns
 unfolding qp_decode_app

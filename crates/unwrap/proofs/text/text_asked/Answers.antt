@@ -3,7 +3,7 @@ use Rattle.clap.specs.Words.{is_simple_and_free}
 use Rattle.unwrap.specs.Asked.{text_in}
 use Rattle.unwrap.proofs.Asking.{asked_found, asked_none}
 use Rattle.unwrap.proofs.Matching.{text_is_simple}
-use Rattle.unwrap.proofs.command_line.text_asked.Goals as goal
+use Rattle.unwrap.proofs.text.text_asked.Goals as goal
 
 pub matches_in-requires : goal.matches_in-requires
 matches_in-requires c = ap is_simple_and_free c.in_ok-command.ensures ∙ text_is_simple

@@ -3,7 +3,7 @@ use Rattle.clap.specs.Words.{is_simple_and_free}
 use Rattle.unwrap.specs.Asked.{unwrap_in}
 use Rattle.unwrap.proofs.Asking.{asked_found, asked_none}
 use Rattle.unwrap.proofs.Matching.{unwrap_is_simple}
-use Rattle.unwrap.proofs.command_line.unwrap_asked.Goals as goal
+use Rattle.unwrap.proofs.header.unwrap_asked.Goals as goal
 
 pub matches_in-requires : goal.matches_in-requires
 matches_in-requires c = ap is_simple_and_free c.in_ok-command.ensures ∙ unwrap_is_simple

@@ -8,7 +8,7 @@ use Rattle.unwrap.specs.Values.{file_view}
 use Rattle.enc_front.specs.Indexes.{Indexes}
 use Rattle.unwrap.proofs.Streaming.{streams_none}
 use Rattle.unwrap.proofs.FilesTaken.{behind_no_usage, files_counts, of_files_no_usage, takes_made, with_made, with_refused}
-use Rattle.unwrap.proofs.run.stream.Goals as goal
+use Rattle.unwrap.proofs.text.stream.Goals as goal
 
 pub returns-in-Err-clause-no_usage : goal.returns-in-Err-clause-no_usage
 returns-in-Err-clause-no_usage g c = of_files_no_usage _ c.in-Err.ensures.makes.0
