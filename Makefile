@@ -26,6 +26,7 @@ bench: build
 	bench/headers $(PROGRAM)
 	bench/quoted $(PROGRAM)
 	bench/text $(PROGRAM)
+	bench/encode
 
 install: build
 	install -d $(DESTDIR)$(PREFIX)/bin $(SHARE)/man/man1 $(SHARE)/bash-completion/completions

@@ -14,11 +14,13 @@ import sys
 import tempfile
 import time
 
+from rounds import Bench, peak_memory, write
+
+BENCH = Bench("bench/headers")
 LIMIT = 1 << 20
 RUNS = 40
 PEER_RUNS = 3
 PEER_SECONDS = 60
-TIME = "/usr/bin/time"
 PYTHON = """
 import sys
 from email.header import decode_header, make_header
@@ -70,30 +72,7 @@ def inputs(share):
 
 def least_time(command, path):
     """The least time of `RUNS` runs, in seconds."""
-    best = float("inf")
-    for _ in range(RUNS):
-        with open(path, "rb") as source:
-            start = time.perf_counter()
-            status = subprocess.call(command, stdin=source, stdout=subprocess.DEVNULL)
-            best = min(best, time.perf_counter() - start)
-        if status != 0:
-            sys.exit(f"{command}: status {status} on {path}")
-    return best
-
-
-def peak_memory(command, path):
-    """The peak memory in bytes, or none where it can't be read."""
-    if not os.access(TIME, os.X_OK):
-        return None
-    with open(path, "rb") as source:
-        done = subprocess.run(
-            [TIME, "-f", "%M", *command],
-            stdin=source,
-            stdout=subprocess.DEVNULL,
-            stderr=subprocess.PIPE,
-            check=True,
-        )
-    return int(done.stderr) * 1024
+    return min(BENCH.wall(command, path) for _ in range(RUNS))
 
 
 def peers():
@@ -126,11 +105,6 @@ def peer_time(command, path):
     return best
 
 
-def write(path, content):
-    with open(path, "wb") as file:
-        file.write(content)
-
-
 def compare_with_cat(program, cat, path):
     write(path, b"")
     start = least_time(program, path)
@@ -144,7 +118,7 @@ def compare_with_cat(program, cat, path):
         beside = least_time([cat], path) + start
         growth = (whole - start) / max(quarter - start, 1e-6)
         peak = peak_memory(program, path)
-        memory = "not read" if peak is None else f"{peak / len(content):.1f}"
+        memory = "not read" if peak is None else f"{peak * 1024 / len(content):.1f}"
         print(f"{name} | {len(content)} | {whole / beside:.1f} | {growth:.1f} | {memory}")
 
 
@@ -170,7 +144,7 @@ def main():
     program = [os.path.abspath(sys.argv[1]), "unwrap"]
     cat = shutil.which("cat")
     if cat is None:
-        print("bench/headers: skipped, no cat")
+        BENCH.skipped("no cat")
         return
     with tempfile.TemporaryDirectory() as folder:
         path = os.path.join(folder, "input")

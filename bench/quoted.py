@@ -12,8 +12,10 @@ import shutil
 import subprocess
 import sys
 import tempfile
-import time
 
+from rounds import Bench, write
+
+BENCH = Bench("bench/quoted")
 SIZE = 32 << 20
 ROUNDS = 7
 STARTS = 10
@@ -42,26 +44,11 @@ def perl(call):
     return [found, "-MMIME::QuotedPrint", "-e", PERL.format(call)]
 
 
-def seconds(command, path):
-    with open(path, "rb") as source:
-        start = time.perf_counter()
-        status = subprocess.call(command, stdin=source, stdout=subprocess.DEVNULL)
-        taken = time.perf_counter() - start
-    if status != 0:
-        sys.exit(f"{command}: status {status}")
-    return taken
-
-
-def write(path, content):
-    with open(path, "wb") as file:
-        file.write(content)
-
-
 def least(commands, path, rounds):
     best = {name: float("inf") for name in commands}
     for _ in range(rounds):
         for name, command in commands.items():
-            best[name] = min(best[name], seconds(command, path))
+            best[name] = min(best[name], BENCH.wall(command, path))
     return best
 
 
@@ -84,7 +71,7 @@ def main():
     program = os.path.abspath(sys.argv[1])
     cat = shutil.which("cat")
     if cat is None:
-        print("bench/quoted: skipped, no cat")
+        BENCH.skipped("no cat")
         return
     rng = random.Random(1)
     mixed = text(SIZE, rng)

@@ -18,60 +18,21 @@ those of a run on empty input taken off.
 """
 
 import argparse
-import hashlib
 import os
-import re
 import shutil
 import statistics
 import subprocess
 import sys
 import tempfile
-import time
 
+from rounds import (
+    HERE, MIB, Bench, digest_of, instructions, make_indexes, peak_memory, write, write_many, written,
+)
 from texts import HOSTILE, texts
 
-HERE = os.path.dirname(os.path.abspath(__file__))
-TIME = "/usr/bin/time"
-PACKAGES = "/usr/share/cargo/registry"
-MIB = 1 << 20
+BENCH = Bench("bench/text")
 STARTS = 60
 HEADER = b"=?UTF-8?Q?Gr=C3=BC=C3=9Fe?= aus =?ISO-8859-1?Q?M=FCnchen?="
-
-
-def skipped(what):
-    print("bench/text: skipped, %s" % what)
-
-
-def build_peer(folder):
-    """The program over encoding_rs_io, built in a folder, or none."""
-    cargo = shutil.which("cargo")
-    if cargo is None or not os.path.isdir(PACKAGES):
-        skipped("encoding_rs_io: no cargo, or no package librust-encoding-rs-io-dev")
-        return None
-    source = os.path.join(folder, "source")
-    shutil.copytree(os.path.join(HERE, "peer"), source, ignore=shutil.ignore_patterns("target", "Cargo.lock"))
-    packages = [
-        "--config", 'source.crates-io.replace-with="debian"',
-        "--config", 'source.debian.directory="%s"' % PACKAGES,
-    ]
-    words = [cargo, "build", "--release", "--offline", "--quiet", "--target-dir", folder, *packages]
-    done = subprocess.run(words, cwd=source, capture_output=True, check=False)
-    if done.returncode != 0:
-        skipped("encoding_rs_io: cargo says " + done.stderr.decode(errors="replace")[-300:])
-        return None
-    version = subprocess.run([cargo, "--version"], capture_output=True, check=False).stdout.decode()
-    print("encoding_rs_io is built by %s" % version.strip())
-    return os.path.join(folder, "release", "peer")
-
-
-def make_indexes(folder):
-    """The words that hand over each index file, by kind; none where they can't be made."""
-    tool = os.path.join(HERE, "..", "tools", "indexes")
-    subprocess.run([sys.executable, tool, folder], capture_output=True, check=False)
-    listed = subprocess.run(
-        [sys.executable, tool, "--list", folder], capture_output=True, check=False
-    ).stdout.decode()
-    return dict((word.partition("=")[0], word) for word in listed.splitlines())
 
 
 class Commands:
@@ -94,7 +55,7 @@ class Commands:
     def missing(self, name):
         """Tells of a text without its index file, where others are there."""
         if self.indexes:
-            skipped("%s: no index file" % name)
+            BENCH.skipped("%s: no index file" % name)
 
     def beside(self, text):
         """Other commands by name."""
@@ -109,73 +70,6 @@ class Commands:
                 found["uconv"] = ["uconv", "-f", text.iconv, "-t", "UTF-8"]
         found["cat"] = ["cat"]
         return found
-
-
-def taken(words, path):
-    """The processor's time of a run in seconds, and its status."""
-    with open(path, "rb") as source:
-        child = subprocess.Popen(
-            words, stdin=source, stdout=subprocess.DEVNULL, stderr=subprocess.DEVNULL
-        )
-        _, status, usage = os.wait4(child.pid, 0)
-        child.returncode = os.waitstatus_to_exitcode(status)
-    return usage.ru_utime + usage.ru_stime, child.returncode
-
-
-def medians(commands, path, rounds):
-    """The median time of each command by name."""
-    times = {name: [] for name in commands}
-    for _ in range(rounds):
-        for name, words in commands.items():
-            seconds, status = taken(words, path)
-            if status != 0:
-                sys.exit("bench/text: %s: status %d" % (words, status))
-            times[name].append(seconds)
-    return {name: statistics.median(found) for name, found in times.items()}
-
-
-def peak_memory(words, path):
-    """The peak memory in KiB, or none where it can't be read."""
-    if not os.access(TIME, os.X_OK):
-        return None
-    with open(path, "rb") as source:
-        done = subprocess.run(
-            [TIME, "-f", "%M", *words],
-            stdin=source,
-            stdout=subprocess.DEVNULL,
-            stderr=subprocess.PIPE,
-            check=False,
-        )
-    last = done.stderr.split()
-    return int(last[-1]) if done.returncode == 0 and last else None
-
-
-def written(words, path):
-    """A digest of what a command writes, and its status."""
-    digest = hashlib.sha256()
-    with open(path, "rb") as source:
-        child = subprocess.Popen(
-            words, stdin=source, stdout=subprocess.PIPE, stderr=subprocess.DEVNULL
-        )
-        while piece := child.stdout.read(MIB):
-            digest.update(piece)
-        return digest.digest(), child.wait()
-
-
-def write(path, chunk, size):
-    """The chunk again and again, at least once and until there are about `size` bytes; how often."""
-    count = max(1, size // len(chunk))
-    with open(path, "wb") as file:
-        for _ in range(count):
-            file.write(chunk)
-    return count
-
-
-def digest_of(chunk, count):
-    digest = hashlib.sha256()
-    for _ in range(count):
-        digest.update(chunk)
-    return digest.digest()
 
 
 class Report:
@@ -214,13 +108,13 @@ def compare(commands, options, path, report):
             commands.missing(text.name)
             continue
         both = {"own": own, **commands.beside(text)}
-        write(path, text.content, options.size // 4)
-        quarter = medians({"own": own}, path, min(3, options.rounds))["own"]
-        count = write(path, text.content, options.size)
+        write_many(path, text.content, options.size // 4)
+        quarter = BENCH.medians({"own": own}, path, min(3, options.rounds))["own"]
+        count = write_many(path, text.content, options.size)
         kept = report.kept(both, text, path, count)
         if "own" not in kept:
             continue
-        times = medians(kept, path, options.rounds)
+        times = BENCH.medians(kept, path, options.rounds)
         most, aim = text.goal
         over = ""
         if "encoding_rs_io" in times and times["own"] > most * times["encoding_rs_io"]:
@@ -251,16 +145,16 @@ def hostile(commands, options, path, report):
             commands.missing("%s, %s" % (label, name))
             continue
         many = chunk * (MIB // 4 // len(chunk))
-        write(path, many, size // 4)
-        quarter = medians({"own": own}, path, min(3, options.rounds))["own"]
-        count = write(path, many, size)
+        write_many(path, many, size // 4)
+        quarter = BENCH.medians({"own": own}, path, min(3, options.rounds))["own"]
+        count = write_many(path, many, size)
         both = {"own": own}
         if commands.peer is not None:
             both["encoding_rs_io"] = [commands.peer] + ([] if label is None else [label])
             if len({written(words, path) for words in both.values()}) != 1:
                 print("%s, %s: encoding_rs_io writes something else" % (label, name))
                 report.differ += 1
-        times = medians(both, path, min(3, options.rounds))
+        times = BENCH.medians(both, path, min(3, options.rounds))
         print(
             " | ".join(
                 [
@@ -276,27 +170,16 @@ def hostile(commands, options, path, report):
         )
 
 
-def wall(words, path):
-    with open(path, "rb") as source:
-        begin = time.perf_counter()
-        status = subprocess.call(words, stdin=source, stdout=subprocess.DEVNULL)
-        seconds = time.perf_counter() - begin
-    if status != 0:
-        sys.exit("bench/text: %s: status %d" % (words, status))
-    return seconds
-
-
 def starts(commands, path):
     """Start to end on a short header, by the clock on the wall, beside `true`."""
-    with open(path, "wb") as file:
-        file.write(HEADER)
+    write(path, HEADER)
     rows = {"true": [shutil.which("true")], "a short header": [commands.program, "unwrap"]}
     if commands.indexes:
         rows["with all index files"] = [commands.program, "unwrap", *commands.indexes.values()]
     times = {name: [] for name in rows}
     for _ in range(STARTS):
         for name, words in rows.items():
-            times[name].append(wall(words, path))
+            times[name].append(BENCH.wall(words, path))
     print("\nstart to end | ms | beside `true` | KiB | at most")
     goals = {
         "true": "",
@@ -310,34 +193,19 @@ def starts(commands, path):
         print("%s | %.2f | %.1f | %s | %s" % (name, median * 1e3, median / least, memory, goals[name]))
 
 
-def instructions(words, path):
-    """How many instructions callgrind counts, or none."""
-    with tempfile.TemporaryDirectory() as folder, open(path, "rb") as source:
-        done = subprocess.run(
-            ["valgrind", "--tool=callgrind", "--callgrind-out-file=" + os.path.join(folder, "out"), *words],
-            stdin=source,
-            stdout=subprocess.DEVNULL,
-            stderr=subprocess.PIPE,
-            check=False,
-        )
-    found = re.search(rb"Collected : (\d+)", done.stderr)
-    return int(found.group(1)) if found and done.returncode == 0 else None
-
-
 def count_instructions(commands, options, folder):
     if shutil.which("valgrind") is None:
-        skipped("no valgrind")
+        BENCH.skipped("no valgrind")
         return
     path = os.path.join(folder, "input")
     empty = os.path.join(folder, "empty")
-    with open(empty, "wb"):
-        pass
+    write(empty, b"")
     print("\ntext | instructions a byte | encoding_rs_io")
     for text in texts():
         own = commands.own(text.label, text.kinds)
         if options.only not in text.name or own is None:
             continue
-        count = write(path, text.content, options.size)
+        count = write_many(path, text.content, options.size)
         both = [own]
         if commands.peer is not None:
             both.append(commands.beside(text)["encoding_rs_io"])
@@ -377,15 +245,15 @@ def main():
     options.size = int(options.size * MIB)
     program = os.path.abspath(options.program)
     if not os.access(program, os.X_OK):
-        skipped("no program %s" % options.program)
+        BENCH.skipped("no program %s" % options.program)
         return
     report = Report()
     with tempfile.TemporaryDirectory() as folder:
         indexes = make_indexes(options.indexes or os.path.join(folder, "indexes"))
         if not takes_indexes(program, indexes):
-            skipped("texts that need index files: none there, or the program takes none")
+            BENCH.skipped("texts that need index files: none there, or the program takes none")
             indexes = {}
-        peer = options.peer or build_peer(os.path.join(folder, "peer"))
+        peer = options.peer or BENCH.build_peer(os.path.join(folder, "peer"))
         commands = Commands(program, peer, indexes)
         path = os.path.join(folder, "input")
         if options.callgrind:

@@ -1,4 +1,4 @@
-"""The texts that `bench/text` times, each made anew from a few words by a fixed seed."""
+"""The texts that `bench/text` and `bench/encode` time, each made anew from a few words by a fixed seed."""
 
 import codecs
 import random
@@ -66,6 +66,7 @@ EUC_JP = Code("euc-jp", "euc_jp", "EUC-JP", ("jis0208", "jis0212"))
 BIG5 = Code("big5", "big5", "BIG5", ("big5",))
 GBK = Code("gbk", "gbk", "GBK", ("gb18030", "gb18030-ranges"))
 GB18030 = Code("gb18030", "gb18030", "GB18030", ("gb18030", "gb18030-ranges"))
+USER_DEFINED = Code("x-user-defined", "ascii", None)
 ISO_2022_JP = Code("iso-2022-jp", "iso2022_jp", "ISO-2022-JP", ("jis0208",))
 
 # Each text's code, words, and what is to be reached.
@@ -101,6 +102,15 @@ MALFORMED_ROWS = [
     (SHIFT_JIS, "Japanese"), (EUC_JP, "Japanese"), (BIG5, "Traditional"), (GB18030, "Simplified"),
     (ISO_2022_JP, "Japanese"),
 ]
+# What is encoded: each code with its words.
+ENCODED_ROWS = [
+    (WINDOWS_1252, "Latin"), (WINDOWS_1251, "Cyrillic"), (KOI8_R, "Cyrillic"), (EUC_KR, "Korean"),
+    (EUC_JP, "Japanese"), (GBK, "Simplified"), (GB18030, "Simplified"), (UTF_8, "Emoji"),
+]
+ENCODED_ASCII_ROWS = [
+    UTF_8, WINDOWS_1252, USER_DEFINED, WINDOWS_1251, EUC_KR, EUC_JP, GBK, GB18030,
+]
+ENCODED_MOST = (1.0, 0.7)
 
 
 def line_ends(words, rng):
@@ -146,9 +156,14 @@ def half_malformed(code, text):
     return content, "".join(character + "\ufffd" for character in short)
 
 
-def texts():
+def chunks_of_words():
+    """The text of each family of words, some characters long."""
     rng = random.Random(20450607)
-    chunks = {name: line_ends(words, rng) for name, words in WORDS.items()}
+    return {name: line_ends(words, rng) for name, words in WORDS.items()}
+
+
+def texts():
+    chunks = chunks_of_words()
     plain = chunks["Emoji"].encode()
     yield Text("unchanged, no encoding named", None, (), plain, plain, (1.0, 1.0))
     for code in ASCII_ROWS:
@@ -165,6 +180,16 @@ def texts():
         content, text = half_malformed(code, chunks[words])
         name = "%s %s, half of it malformed" % (code.label, words)
         yield Text(name, code.label, code.kinds, content, text.encode(), BAD_MOST)
+
+
+def texts_to_encode():
+    """Texts whose bytes are to be made: their content is UTF-8, and their text those bytes."""
+    chunks = chunks_of_words()
+    rows = [(code, "ASCII") for code in ENCODED_ASCII_ROWS] + ENCODED_ROWS
+    for code, words in rows:
+        text = chunks[words]
+        name = "%s %s" % (code.label, words)
+        yield Text(name, code.label, code.kinds, text.encode(), encoded(code, text), ENCODED_MOST)
 
 
 # Inputs of nothing but one thing: a name, a label, the kinds of indexes, and the bytes.

@@ -119,6 +119,8 @@ def iconv_library():
 
 
 class Check:
+    name = NAME
+
     def __init__(self, program, files):
         self.program = program
         self.files = files
@@ -126,13 +128,17 @@ class Check:
         self.library = iconv_library()
         self.wrong = 0
         self.listed = {}
-        for names, whose, spans, _ in DIFFERENCES:
+        self.list_differences(DIFFERENCES)
+
+    def list_differences(self, rows):
+        """Lists the sequences of these rows as known to differ."""
+        for names, whose, spans, _ in rows:
             for code in names.split():
                 for name in ("Python", "iconv") if whose == "both" else (whose,):
                     self.listed.setdefault((code, name), []).extend(spans_of(spans))
 
     def say(self, text):
-        print("%s: %s" % (NAME, text), flush=True)
+        print("%s: %s" % (self.name, text), flush=True)
 
     def tell(self, text):
         self.wrong += 1

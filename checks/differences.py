@@ -1,7 +1,8 @@
-"""Where iconv and Python's codecs decode otherwise than the Encoding Standard says: data of
-`checks/codes`."""
+"""Where iconv and Python's codecs decode and encode otherwise than the Encoding Standard says: data
+of `checks/codes` and `checks/encoders`."""
 
-# Where another decoder has something else than the standard: code, whose, the sequences, why.
+# Where another decoder has something else than the standard: code, whose, the sequences, why. An
+# encoder differs for the same sequences, its own or the standard's.
 C1 = "the standard has the C1 control of the same number where Microsoft's table has nothing"
 MICROSOFT = "the standard has Microsoft's scalars for some signs, theirs has those of JIS or of Unicode's own table"
 DIFFERENCES = [
@@ -81,3 +82,18 @@ REFUSED = [
 
 # Scalars that Python's codecs of JIS have for signs for which the standard has Microsoft's.
 MOVED = {0x5C, 0x7E, 0xA5, 0x203E, 0x301C, 0x2016, 0x2212, 0xA2, 0xA3, 0xAC}
+
+# Where, besides, another encoder has a sequence that the standard's encoder doesn't write, or has
+# another one in its place: code, whose, the sequences, why.
+ENCODED = [
+    ("windows-1255", "iconv", "D6C4-FAD2 F9CCD1-F9CCD2", "iconv writes presentation forms as a letter and its points"),
+    ("windows-1258", "iconv", "41CC-FEF2 CC EC", "iconv writes letters and marks as those that they are made of"),
+    ("euc-jp", "both", "8FA1A1-8FFEFE", "JIS X 0212, which the standard decodes and doesn't encode"),
+    ("euc-jp", "iconv", "A1BD A1C1-A1C2 A1F1-A1F2 A2CC", "iconv writes JIS's scalars of some signs as it does Microsoft's"),
+    ("gbk", "both", "81308130-FE39FE39", "sequences of four bytes, which the standard's GBK doesn't write"),
+]
+
+# Scalars whose bytes are decoded as another one, by code (Encoding Standard, section 12.1.2).
+NOT_READ_BACK = {
+    "euc-jp": {0xA5: 0x5C, 0x203E: 0x7E, 0x2212: 0xFF0D},
+}

@@ -1,7 +1,8 @@
-"""The decoders of the Encoding Standard (sections 8 to 14) over index files, in a few lines: what
-`checks/codes` compares a program with. They take whole sequences, and nothing of them is the
-program's."""
+"""The decoders and encoders of the Encoding Standard (sections 8 to 14) over index files, in a few
+lines: what `checks/codes` and `checks/encoders` compare with. They take whole sequences and single
+scalars, and nothing of them is the program's."""
 
+import bisect
 import codecs
 
 BAD = "\ufffd"
@@ -26,6 +27,8 @@ class Standard:
     def __init__(self, files):
         self.index = {kind: dict(rows_of(path)) for kind, path in files.items()}
         self.ranges = sorted(self.index.get("gb18030-ranges", {}).items())
+        self.least = {}
+        self.single = {}
 
     def place(self, kind, place):
         scalar = self.index[kind].get(place)
@@ -148,6 +151,60 @@ class Standard:
                 out.append({0x5C: "¥", 0x7E: "‾"}.get(byte, chr(byte)) if mode == "Roman" else chr(byte))
         return "".join(out)
 
+    def places(self, kind, below):
+        """The least place of each scalar of an index, of those below a number."""
+        if (kind, below) not in self.least:
+            rows = sorted(self.index[kind].items(), reverse=True)
+            self.least[kind, below] = {scalar: place for place, scalar in rows if place < below}
+        return self.least[kind, below]
+
+    def range_place(self, scalar):
+        """The least place of gb18030's four-byte sequences with this scalar, or none."""
+        if scalar == 0xE7C7:
+            return 7457
+        row = bisect.bisect([start for _, start in self.ranges], scalar) - 1
+        if row < 0:
+            return None
+        first, start = self.ranges[row]
+        place = first + scalar - start
+        rows_behind = self.ranges[row + 1 :]
+        end = rows_behind[0][0] if rows_behind else 1237576
+        return None if place >= end or 39420 <= place < 189000 or place == 7457 else place
+
+    def bytes_of(self, code, scalar):
+        """The bytes of a scalar in an encoding, empty where it has none: those of its encoder, or
+        of UTF-8's for UTF-16. GBK and gb18030 go by the index and the ranges alone."""
+        if scalar < 0x80:
+            return bytes([scalar])
+        if code in ("utf-8", "utf-16le", "utf-16be"):
+            return chr(scalar).encode()
+        if code == "euc-kr":
+            return pair_of(self.places("euc-kr", 23940).get(scalar), 190, 0x41)
+        if code == "euc-jp":
+            other = {0xA5: b"\x5c", 0x203E: b"\x7e"}.get(scalar)
+            if other or 0xFF61 <= scalar <= 0xFF9F:
+                return other or bytes([0x8E, scalar - 0xFF61 + 0xA1])
+            moved = 0xFF0D if scalar == 0x2212 else scalar
+            return pair_of(self.places("jis0208", 8836).get(moved), 94, 0xA1, 0xA1)
+        if code in ("gbk", "gb18030"):
+            return self.gb(code, scalar)
+        if code not in self.single:
+            alone = ((self.alone(code, byte), byte) for byte in range(0xFF, 0x7F, -1))
+            self.single[code] = {ord(text): bytes([byte]) for text, byte in alone if text}
+        return self.single[code].get(scalar, b"")
+
+    def gb(self, code, scalar):
+        """The bytes of a scalar past ASCII in GBK or gb18030."""
+        if scalar == 0xE5E5:
+            return b""
+        if code == "gbk" and scalar == 0x20AC:
+            return b"\x80"
+        place = self.places("gb18030", 23940).get(scalar)
+        if place is not None:
+            return bytes([place // 190 + 0x81, place % 190 + (0x40 if place % 190 < 0x3F else 0x41)])
+        place = None if code == "gbk" else self.range_place(scalar)
+        return b"" if place is None else four_of(place)
+
     def three(self, rest):
         """The text of 8F and these bytes, the first of them A1 to FE, before LF."""
         if len(rest) == 1:
@@ -164,6 +221,11 @@ def rows_of(path):
             if line.strip() and not line.startswith("#"):
                 place, scalar = line.split("\t")[:2]
                 yield int(place), int(scalar, 16)
+
+
+def pair_of(place, count, trail, lead=0x81):
+    """The two bytes of a place with so many trails from the first one, or none."""
+    return b"" if place is None else bytes([place // count + lead, place % count + trail])
 
 
 def four_of(place):
