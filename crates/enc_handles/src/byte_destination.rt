@@ -11,6 +11,9 @@ use crate::byte_buffer::ByteBuffer;
 use crate::space::Space;
 use crate::text_slice::TextSlice;
 
+#[cfg(test)]
+mod tests;
+
 /// Bytes, of which some are written and the others are free.
 #[derive(Drop)]
 pub struct ByteDestinationOver<D: ByteBuffer> {

@@ -7,6 +7,9 @@ ghost use Rattle.enc_handles.specs.Space.{IsAvailable, IfAvailable, IfFull, Rest
 use crate::byte_slice::ByteSlice;
 use crate::space::Space;
 
+#[cfg(test)]
+mod tests;
+
 /// A list of bytes and the place of the next one to read.
 #[derive(Drop)]
 pub struct ByteSourceOver<B: ByteSlice> {

@@ -17,12 +17,15 @@ use crate::byte_slice::ByteSlice;
 use crate::byte_source::ByteSourceOver;
 use crate::endian::Endian;
 use crate::results::DecoderResult;
-use crate::room::{AstralRoom, BmpRoom, scalar_of_pair};
+use crate::room::{AstralRoom, BmpRoom};
 use crate::space::{CopyAsciiResult, Space};
 use crate::unaligned::UnalignedU16Slice;
 use crate::unit_slice::UnitSlice;
 use crate::utf8::{sequence_len, sequence_scalar};
-use crate::utf16::{scalar_at, without_last_lead};
+use crate::utf16::{scalar_at, scalar_of_pair, without_last_lead};
+
+#[cfg(test)]
+mod tests;
 
 /// What takes text in one form, UTF-8 or UTF-16, and knows how much room is left.
 pub trait Destination: Drop {

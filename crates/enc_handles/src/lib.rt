@@ -16,12 +16,10 @@ pub mod laws;
 pub mod results;
 pub mod room;
 pub mod space;
-#[cfg(test)]
-mod tests;
 pub mod text_slice;
 pub mod unaligned;
 pub mod unicode;
 pub mod unit_slice;
-mod utf16;
-mod utf8;
+pub mod utf16;
+pub mod utf8;
 mod utf8_parts;

@@ -6,6 +6,10 @@ ghost use Rattle.enc_handles.specs.Room.{bmp_destination, astral_destination};
 ghost use Rattle.enc_handles.specs.Utf16.{is_lead, is_trail, pair_scalar};
 
 use crate::destination::{Destination, Utf8Destination, Utf16Destination};
+use crate::utf16::scalar_of_pair;
+
+#[cfg(test)]
+mod tests;
 
 /// The leave to write a scalar up to U+FFFF.
 #[derive(Drop)]
@@ -215,15 +219,4 @@ impl<'a, D: Destination> AstralRoom<'a, D> {
     {
         self.dest
     }
-}
-
-/// The scalar of a pair of surrogates.
-pub(crate) fn scalar_of_pair(high: u16, low: u16) -> u32
-    requires lead { IsTrue (is_lead high) }
-    requires trail { IsTrue (is_trail low) }
-    ensures value { result ≡ pair_scalar high low }
-    ensures low { 0x1_0000 ≤ result }
-    ensures high { result ≤ 0x10_FFFF }
-{
-    0x1_0000 + (u32::from(high) - 0xD800) * 0x400 + (u32::from(low) - 0xDC00)
 }

@@ -8,8 +8,7 @@ ghost use Rattle.enc_handles.specs.Scalars.{lone_scalar, scalars16, first_len16,
 ghost use Rattle.enc_handles.specs.Lemmas.TextLaws.{at_start8, whole8, at_start16, whole16};
 
 use crate::basic_latin::basic_latin_to_ascii;
-use crate::room::scalar_of_pair;
-use crate::utf16::{is_lead, is_surrogate, is_trail};
+use crate::utf16::{is_lead, is_surrogate, is_trail, pair_scalar};
 use enc_strides::runs::ascii_to_ascii;
 
 /// Text in one form: a `&str`, whose elements are bytes of UTF-8, or a `&[u16]`, whose elements are
@@ -140,16 +139,6 @@ fn is_pair_at(units: &[u16], at: usize) -> bool
         (slice_index units.now (at + 1))) }
 {
     is_lead(units[at]) && at + 1 < units.len() && is_trail(units[at + 1])
-}
-
-// The scalar of a pair of surrogates.
-fn pair_scalar(lead: u16, trail: u16) -> char
-    requires lead { IsTrue (is_lead lead) }
-    requires trail { IsTrue (is_trail trail) }
-    ensures value { result ≡ pair_scalar lead trail }
-    ensures above { 0x1_0000 ≤ result }
-{
-    char::from_u32(scalar_of_pair(lead, trail)).unwrap()
 }
 
 // Copies ASCII of UTF-16 from a place on to the front of `dst`, and answers the place behind it.

@@ -8,6 +8,9 @@ use crate::utf16::is_surrogate;
 use enc_strides::simd_funcs::{simd_byte_swap, to_u16_lanes};
 use std::simd::prelude::*;
 
+#[cfg(test)]
+mod tests;
+
 /// So many 16-bit code units in the bytes of a slice, which may begin at any place.
 #[derive(Clone, Copy)]
 pub struct UnalignedU16Slice<'a> {

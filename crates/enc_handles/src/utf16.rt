@@ -1,10 +1,9 @@
 //! Surrogates, and the scalars of code units.
-ghost use Rattle.std.specs.Prelude.{◌≡◌, ◌<◌, length, IfSome, IfNone};
+ghost use Rattle.std.specs.Prelude.{◌≡◌, ◌<◌, ◌≤◌, IsTrue, length, IfSome, IfNone};
 ghost use Rattle.enc_handles.specs.Unaligned.{units_in};
-ghost use Rattle.enc_handles.specs.Utf16.{is_lead, is_trail, is_surrogate, without_last_lead, HasScalarAt, BeginsNoPair};
+ghost use Rattle.enc_handles.specs.Utf16.{is_lead, is_trail, is_surrogate, pair_scalar, without_last_lead, HasScalarAt, BeginsNoPair};
 
 use crate::endian::Endian;
-use crate::room::scalar_of_pair;
 use crate::unaligned::UnalignedU16Slice;
 
 // The scalar that stands at `i` and how many units it has, or `None` where an unpaired surrogate
@@ -44,15 +43,17 @@ pub(crate) fn without_last_lead<'a, E: Endian>(
     units
 }
 
-// Whether a code unit is a leading surrogate.
-pub(crate) fn is_lead(unit: u16) -> bool
+/// Whether a code unit is a leading surrogate.
+#[inline(always)]
+pub fn is_lead(unit: u16) -> bool
     ensures { result ≡ is_lead unit }
 {
     0xD800 <= unit && unit <= 0xDBFF
 }
 
-// Whether a code unit is a trailing surrogate.
-pub(crate) fn is_trail(unit: u16) -> bool
+/// Whether a code unit is a trailing surrogate.
+#[inline(always)]
+pub fn is_trail(unit: u16) -> bool
     ensures { result ≡ is_trail unit }
 {
     0xDC00 <= unit && unit <= 0xDFFF
@@ -63,4 +64,26 @@ pub(crate) fn is_surrogate(unit: u16) -> bool
     ensures { result ≡ is_surrogate unit }
 {
     0xD800 <= unit && unit <= 0xDFFF
+}
+
+// The number of the scalar of a pair of surrogates.
+pub(crate) fn scalar_of_pair(high: u16, low: u16) -> u32
+    requires lead { IsTrue (is_lead high) }
+    requires trail { IsTrue (is_trail low) }
+    ensures value { result ≡ pair_scalar high low }
+    ensures low { 0x1_0000 ≤ result }
+    ensures high { result ≤ 0x10_FFFF }
+{
+    0x1_0000 + (u32::from(high) - 0xD800) * 0x400 + (u32::from(low) - 0xDC00)
+}
+
+/// The scalar of a pair of surrogates.
+#[inline(always)]
+pub fn pair_scalar(lead: u16, trail: u16) -> char
+    requires lead { IsTrue (is_lead lead) }
+    requires trail { IsTrue (is_trail trail) }
+    ensures value { result ≡ pair_scalar lead trail }
+    ensures above { 0x1_0000 ≤ result }
+{
+    char::from_u32(scalar_of_pair(lead, trail)).unwrap()
 }

@@ -1,16 +1,19 @@
-//! Well-formed sequences of UTF-8, by the table of the Encoding Standard's decoder.
+//! Well-formed sequences of UTF-8, by the table of the Encoding Standard's decoder (section 8.1.1;
+//! the Unicode Standard, table 3-7).
 ghost use Rattle.std.specs.Prelude.{◌≡◌, ◌<◌, ◌≤◌, ◌++◌, length, drop, slice_index, encode_utf8};
 ghost use Rattle.std.specs.Char.{IsScalar};
 ghost use Rattle.enc_handles.specs.Utf8.{byte_in, is_tail_at, begins_two, begins_three, begins_four, sequence_len, sequence_scalar};
 
-// Whether a byte from `low` to `high` stands at place `k`.
-fn byte_in(bytes: &[u8], k: usize, low: u8, high: u8) -> bool
+/// Whether a byte from `low` to `high` stands at place `k`.
+#[inline(always)]
+pub fn byte_in(bytes: &[u8], k: usize, low: u8, high: u8) -> bool
     ensures { result ≡ byte_in bytes.now k low high }
 {
     k < bytes.len() && low <= bytes[k] && bytes[k] <= high
 }
 
 // Whether a byte that may stand third or fourth in a sequence is at place `k`.
+#[inline(always)]
 fn is_tail_at(bytes: &[u8], k: usize) -> bool
     ensures { result ≡ is_tail_at bytes.now k }
 {
@@ -18,6 +21,7 @@ fn is_tail_at(bytes: &[u8], k: usize) -> bool
 }
 
 // Whether the bytes begin with a sequence of two, by the bounds of its first byte.
+#[inline(always)]
 fn begins_two(bytes: &[u8], low: u8, high: u8) -> bool
     ensures { result ≡ begins_two bytes.now low high }
 {
@@ -25,6 +29,7 @@ fn begins_two(bytes: &[u8], low: u8, high: u8) -> bool
 }
 
 // Whether the bytes begin with a sequence of three, by the bounds of its first and its second byte.
+#[inline(always)]
 fn begins_three(bytes: &[u8], low: u8, high: u8, second_low: u8, second_high: u8) -> bool
     ensures { result ≡ begins_three bytes.now low high second_low second_high }
 {
@@ -34,6 +39,7 @@ fn begins_three(bytes: &[u8], low: u8, high: u8, second_low: u8, second_high: u8
 }
 
 // Whether the bytes begin with a sequence of four, by the bounds of its first and its second byte.
+#[inline(always)]
 fn begins_four(bytes: &[u8], low: u8, high: u8, second_low: u8, second_high: u8) -> bool
     ensures { result ≡ begins_four bytes.now low high second_low second_high }
 {
@@ -43,10 +49,12 @@ fn begins_four(bytes: &[u8], low: u8, high: u8, second_low: u8, second_high: u8)
         && is_tail_at(bytes, 3)
 }
 
-// The length of the sequence at the front, or 0 where none stands there.
+/// The length of the sequence at the front, or 0 where none stands there.
+#[inline(always)]
 #[tactic(auto, unfolding(crate::specs::Utf8::sequence_len))]
-pub(crate) fn sequence_len(bytes: &[u8]) -> usize
-    ensures { result ≡ sequence_len bytes.now }
+pub fn sequence_len(bytes: &[u8]) -> usize
+    ensures value { result ≡ sequence_len bytes.now }
+    ensures short { result ≤ 4 }
 {
     if byte_in(bytes, 0, 0x00, 0x7F) {
         1
@@ -72,6 +80,7 @@ pub(crate) fn sequence_len(bytes: &[u8]) -> usize
 }
 
 // The byte at place `k`, or 0 past the end.
+#[inline(always)]
 fn byte_at(bytes: &[u8], k: usize) -> u32
     ensures value { result ≡ slice_index bytes.now k }
     ensures byte { result < 0x100 }
@@ -84,6 +93,7 @@ fn byte_at(bytes: &[u8], k: usize) -> u32
 }
 
 // The low bits of the bytes of the sequence at the front, which has `len` bytes, in a row.
+#[inline(always)]
 #[tactic(auto, unfolding(crate::specs::Utf8::sequence_scalar))]
 fn low_bits(bytes: &[u8], len: usize) -> u32
     requires { len ≡ sequence_len bytes.now }
@@ -104,10 +114,12 @@ fn low_bits(bytes: &[u8], len: usize) -> u32
     }
 }
 
-// The scalar of the sequence at the front, which has `len` bytes.
-pub(crate) fn sequence_scalar(bytes: &[u8], len: usize) -> u32
+/// The scalar of the sequence at the front, which has `len` bytes.
+#[inline(always)]
+pub fn sequence_scalar(bytes: &[u8], len: usize) -> u32
     requires len { len ≡ sequence_len bytes.now }
     requires some { 0 < len }
+    ensures value { result ≡ sequence_scalar bytes.now }
     ensures scalar { IsScalar result }
     ensures len { length (encode_utf8 result) ≡ len }
     ensures within { len ≤ length bytes.now }

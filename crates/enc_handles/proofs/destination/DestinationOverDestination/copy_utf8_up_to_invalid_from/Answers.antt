@@ -14,7 +14,7 @@ pub returns-then-len-eq0 : goal.returns-then-len-eq0
 returns-then-len-eq0 g c =
     copies_none g.S.UnitSlice.encode (reading c.args.source.now) (reading c.loop-bytes.source) (writing c.args.self.now) (writing c.loop-bytes.self)
     c.loop-bytes.invariant.0 c.loop-bytes.invariant.1
-    (ap sequence_len (sym c.rest-bytes.ensures) ∙ (sym c.sequence_len-len.ensures ∙ c.if-len-eq0.true))
+    (ap sequence_len (sym c.rest-bytes.ensures) ∙ (sym c.sequence_len-len.ensures.value ∙ c.if-len-eq0.true))
 
 pub returns-then-unit_count-self : goal.returns-then-unit_count-self
 returns-then-unit_count-self g c =

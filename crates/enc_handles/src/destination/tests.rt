@@ -1,115 +1,7 @@
-//! What the calls give on small buffers.
-use crate::byte_slice::ByteSlice;
-use crate::byte_source::{ByteSource, ByteSourceOver};
-use crate::destination::{Destination, DestinationOver, Utf8Destination, Utf16Destination};
-use crate::endian::{BigEndian, Endian, LittleEndian};
-use crate::results::DecoderResult;
-use crate::space::{CopyAsciiResult, Space};
-use crate::unaligned::UnalignedU16Slice;
-use crate::unit_slice::UnitSlice;
-
-// Where a check found no space, the place that it answered.
-fn full_at<T: Drop>(space: Space<T>) -> Option<usize> {
-    match space {
-        Space::Available(_) => None,
-        Space::Full(place) => Some(place),
-    }
-}
-
-fn write_in_bmp_rooms<S: UnitSlice>(dest: &mut DestinationOver<S>) {
-    if let Space::Available(room) = dest.check_space_bmp() {
-        room.write_ascii(0x41);
-    }
-    if let Space::Available(room) = dest.check_space_bmp() {
-        room.write_bmp(0x7F);
-    }
-    if let Space::Available(room) = dest.check_space_bmp() {
-        room.write_bmp_excl_ascii(0x80);
-    }
-    if let Space::Available(room) = dest.check_space_bmp() {
-        room.write_mid_bmp(0x7FF);
-    }
-    if let Space::Available(room) = dest.check_space_bmp() {
-        room.write_upper_bmp(0x800);
-    }
-    if let Space::Available(room) = dest.check_space_bmp() {
-        let _written = room.written();
-        room.commit();
-    }
-}
-
-fn write_in_astral_rooms<S: UnitSlice>(dest: &mut DestinationOver<S>) {
-    if let Space::Available(room) = dest.check_space_astral() {
-        room.write_ascii(0x42);
-    }
-    if let Space::Available(room) = dest.check_space_astral() {
-        room.write_bmp(0xFFFD);
-    }
-    if let Space::Available(room) = dest.check_space_astral() {
-        room.write_bmp_excl_ascii(0xD7FF);
-    }
-    if let Space::Available(room) = dest.check_space_astral() {
-        room.write_upper_bmp(0xE000);
-    }
-    if let Space::Available(room) = dest.check_space_astral() {
-        room.write_astral(0x1_0000);
-    }
-    if let Space::Available(room) = dest.check_space_astral() {
-        room.write_surrogate_pair(0xDBFF, 0xDFFF);
-    }
-    if let Space::Available(room) = dest.check_space_astral() {
-        room.write_big5_combination(0xCA, 0x304);
-    }
-    if let Space::Available(room) = dest.check_space_astral() {
-        let _written = room.written();
-        room.commit();
-    }
-}
-
-#[test]
-fn three_bytes_are_room_for_one_bmp_scalar(rt: HostRuntime) {
-    let mut buffer = [0u8; 3];
-    let mut dest = Utf8Destination::new(&mut buffer);
-    assert_eq!(rt; full_at(dest.check_space_bmp()), None);
-    assert_eq!(rt; full_at(dest.check_space_astral()), Some(0));
-    if let Space::Available(room) = dest.check_space_bmp() {
-        room.write_ascii(0x61);
-    }
-    assert_eq!(rt; full_at(dest.check_space_bmp()), Some(1));
-    assert_eq!(rt; full_at(dest.check_space_astral()), Some(1));
-    assert_eq!(rt; buffer[0], 0x61);
-}
-
-#[test]
-fn each_write_in_utf8(rt: HostRuntime) {
-    let mut buffer = [0u8; 31];
-    let mut dest = Utf8Destination::new(&mut buffer);
-    write_in_bmp_rooms(&mut dest);
-    write_in_astral_rooms(&mut dest);
-    let written = dest.written();
-    assert_eq!(rt; written, 31);
-    let expected = [
-        0x41, 0x7F, 0xC2, 0x80, 0xDF, 0xBF, 0xE0, 0xA0, 0x80, 0x42, 0xEF, 0xBF, 0xBD, 0xED, 0x9F,
-        0xBF, 0xEE, 0x80, 0x80, 0xF0, 0x90, 0x80, 0x80, 0xF4, 0x8F, 0xBF, 0xBF, 0xC3, 0x8A, 0xCC,
-        0x84,
-    ];
-    assert_eq!(rt; buffer, expected);
-}
-
-#[test]
-fn each_write_in_utf16(rt: HostRuntime) {
-    let mut buffer = [0u16; 15];
-    let mut dest = Utf16Destination::new(&mut buffer);
-    write_in_bmp_rooms(&mut dest);
-    write_in_astral_rooms(&mut dest);
-    let written = dest.written();
-    assert_eq!(rt; written, 15);
-    let expected = [
-        0x41, 0x7F, 0x80, 0x7FF, 0x800, 0x42, 0xFFFD, 0xD7FF, 0xE000, 0xD800, 0xDC00, 0xDBFF,
-        0xDFFF, 0xCA, 0x304,
-    ];
-    assert_eq!(rt; buffer, expected);
-}
+//! Copies into small buffers: ASCII, UTF-8 and UTF-16.
+use super::*;
+use crate::byte_source::ByteSource;
+use crate::endian::{BigEndian, LittleEndian};
 
 #[test]
 fn a_pair_outside_a_room(rt: HostRuntime) {
@@ -118,42 +10,6 @@ fn a_pair_outside_a_room(rt: HostRuntime) {
     dest.write_surrogate_pair(0xD83D, 0xDE00);
     assert_eq!(rt; dest.written(), 4);
     assert_eq!(rt; buffer, [0xF0, 0x9F, 0x98, 0x80]);
-}
-
-// What the next byte is, and the places before the read, after it and after it was put back.
-fn peek<B: ByteSlice>(source: &mut ByteSourceOver<B>) -> Option<(u8, usize, usize, usize)> {
-    match source.check_available() {
-        Space::Available(handle) => {
-            let before = handle.consumed();
-            let (byte, unread) = handle.read();
-            let after = unread.consumed();
-            Some((byte, before, after, unread.unread()))
-        }
-        Space::Full(_place) => None,
-    }
-}
-
-// The next byte.
-fn next<B: ByteSlice>(source: &mut ByteSourceOver<B>) -> Option<u8> {
-    match source.check_available() {
-        Space::Available(handle) => {
-            let (byte, unread) = handle.read();
-            unread.commit();
-            Some(byte)
-        }
-        Space::Full(_place) => None,
-    }
-}
-
-#[test]
-fn a_source_is_read_and_put_back(rt: HostRuntime) {
-    let mut source = ByteSource::new(&[0x61, 0xFF]);
-    assert_eq!(rt; peek(&mut source), Some((0x61, 0, 1, 0)));
-    assert_eq!(rt; next(&mut source), Some(0x61));
-    assert_eq!(rt; peek(&mut source), Some((0xFF, 1, 2, 1)));
-    assert_eq!(rt; next(&mut source), Some(0xFF));
-    assert_eq!(rt; next(&mut source), None);
-    assert_eq!(rt; full_at(source.check_available()), Some(2));
 }
 
 // The result and the places where a copy of ASCII stopped.
@@ -376,25 +232,6 @@ fn utf16_is_copied_to_utf16(rt: HostRuntime) {
 }
 
 #[test]
-fn unaligned_units(rt: HostRuntime) {
-    let bytes = [0x61, 0, 0x3D, 0xD8, 0x62, 0, 0x63];
-    let mut units = UnalignedU16Slice::new(&bytes, 3);
-    assert_eq!(rt; units.len(), 3);
-    assert_eq!(rt; units.at(1), 0xD83D);
-    assert_eq!(rt; units.tail(2).len(), 1);
-    let mut other = [7u16; 4];
-    assert_eq!(rt;
-        units.copy_bmp_to::<LittleEndian>(&mut other),
-        Some((0xD83D, 1))
-    );
-    assert_eq!(rt; other[0], 0x61);
-    assert_eq!(rt; other[3], 7);
-    units.trim_last();
-    assert_eq!(rt; units.copy_bmp_to::<BigEndian>(&mut other), None);
-    assert_eq!(rt; &other[..2], [0x6100, 0x3DD8].as_slice());
-}
-
-#[test]
 fn a_copy_of_ascii_stores_a_stride_before_it_tests(rt: HostRuntime) {
     let mut bytes = [b'a'; 16];
     bytes[3] = 0x80;
@@ -465,20 +302,6 @@ fn fast_copies_move_what_plain_ones_do(rt: HostRuntime) {
             }
         }
     }
-}
-
-#[test]
-fn eight_units_at_once(rt: HostRuntime) {
-    let bytes = [
-        0x61, 0, 0xE4, 0, 0x34, 0x04, 0x00, 0xAC, 0x3D, 0xD8, 0x00, 0xDE, 0x20, 0, 0x41, 0, 0x42, 0,
-    ];
-    let units = UnalignedU16Slice::new(&bytes, 9);
-    assert!(rt; units.len() >= 9);
-    let eight = units.simd_at(1).to_array();
-    assert_eq!(rt;
-        eight,
-        [0xE4, 0x434, 0xAC00, 0xD83D, 0xDE00, 0x20, 0x41, 0x42]
-    );
 }
 
 #[test]
