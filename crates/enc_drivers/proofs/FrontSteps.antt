@@ -2,7 +2,7 @@
 use Rattle.std.proofs.Common.{◌≡◌, ℕ, ◌<◌, ◌≤◌, Bool, true, false, List, [], ◌∷◌, ◌++◌, length, take, drop, ◌+◌, ◌-◌, get_or, refl, ap, sym, subst, ◌∙◌, inl, inr, arith, length-append, length-drop, append_assoc}
 use Rattle.std.specs.Prelude.{nat_le}
 use Rattle.std.proofs.lemmas.Bool.{leb-false}
-use Rattle.std.proofs.lemmas.List.{take-append-le, take_more, append-nil, nil_from_length}
+use Rattle.std.proofs.lemmas.List.{take-append-le, take_more, append-nil}
 use Rattle.std.proofs.lemmas.List.Elements.{All-append}
 use Rattle.std.proofs.lemmas.Grind.{common_steps}
 use Rattle.enc_drivers.specs.declared.unit.Mode.{Mode}
@@ -52,18 +52,6 @@ reads_more unit mode a b b' src n x so_far more waits here front = record {
   needed = λ some.
       let count : n + 1 - 1 ≡ n = omega arith in
       rw count (subst (λ (xs : List ℕ). IsOpen unit (record { held = xs; mode = mode })) so_far.front waits);
-}
-
-finds_end : (unit : Code) (last : Bool) (front : Standing) (rest : List ℕ) (step : Step) → rest ≡ [] → StepsFront unit last front step → Finds unit last front rest step
-finds_end unit last front rest (step.Unit item length next) end s = (last, s, λ e. (e, end))
-finds_end unit last front rest step.More end s = (s, end)
-
--- nothing is left
-pub looks_end : (unit : Code) (mode : Mode) (last : Bool) (a b src : List ℕ) (n : ℕ) (step : Step) → ReadsOnto unit mode a b src n
-    → length src ≤ n → StepsFront unit last (record { held = b; mode = mode }) step → Looks unit mode last a b src n step
-looks_end unit mode last a b src n step so_far all s = record {
-  reads = so_far;
-  finds = finds_end unit last (record { held = b; mode = mode }) (drop n src) step (nil_from_length (drop n src) (omega (arith, length-drop n src))) s;
 }
 
 -- bytes at the front of an open front are open

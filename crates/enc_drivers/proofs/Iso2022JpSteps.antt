@@ -1,7 +1,7 @@
 -- What the front of bytes tells of the unit in ISO-2022-JP.
 use Rattle.std.proofs.Common.{◌≡◌, ℕ, ◌<◌, ◌≤◌, Bool, true, false, cond, List, [], ◌∷◌, ◌++◌, length, get_or, refl, ap, subst, sym, ◌∙◌, arith, inl, inr}
-use Rattle.std.specs.Prelude.{◌==◌, ◌||◌, ◌+◌, ◌-◌, ◌*◌, ◌⊎◌, None}
-use Rattle.std.proofs.lemmas.Bool.{ne_eqb, eqb-true, or_cases, or_parts}
+use Rattle.std.specs.Prelude.{◌==◌, ◌||◌, ◌+◌, ◌-◌, ◌*◌, ◌⊎◌, None, Some}
+use Rattle.std.proofs.lemmas.Bool.{lt-ltb, ne_eqb, eqb-true, or_cases, or_parts}
 use Rattle.std.proofs.lemmas.List.{append-nil}
 use Rattle.enc_drivers.specs.declared.unit.Item.TheVariants.{Malformed}
 use Rattle.enc_drivers.specs.declared.unit.JisSet.{JisSet}
@@ -9,11 +9,11 @@ use Rattle.enc_drivers.specs.declared.unit.Mode.{Mode}
 use Rattle.enc_drivers.specs.declared.unit.Mode.TheVariants.{Within}
 use Rattle.enc_drivers.specs.declared.code.Step.{Step}
 use Rattle.enc_drivers.specs.declared.code.Step.TheVariants as step
-use Rattle.enc_drivers.specs.Units.{Code, malformed_at}
+use Rattle.enc_drivers.specs.Units.{Code, malformed_at, scalar_at}
 use Rattle.enc_drivers.specs.Lookup.{Places}
 use Rattle.enc_drivers.specs.Steps.{IsUndecided, Steps}
 use Rattle.enc_drivers.specs.Codes.Sequence.{whole_unit}
-use Rattle.enc_drivers.specs.Codes.Iso2022Jp.{set_of, escape_set, escaped, escape_unit, single_scalar, in_jis_row, is_jis_lead, jis_pair, set_unit, iso_2022_jp_unit}
+use Rattle.enc_drivers.specs.Codes.Iso2022Jp.{set_of, escape_set, escaped, escape_unit, single_scalar, in_jis_row, is_jis_lead, jis_pair, set_unit, iso_2022_jp_unit, ascii_scalar, IsPlain}
 use Rattle.enc_drivers.proofs.Fronts.{front_of_one, front_of_two, front_of_three, only_one, only_two, one_byte, two_bytes, undecided_by}
 
 -- bytes that are malformed at the end, and undecided before it, in a mode that they leave
@@ -119,6 +119,23 @@ of_pair q set a b rest e differs f = rw (e, ne_eqb b 0x1B differs, f) refl
 pub single_front : (q : Places) (mode : Mode) (set : JisSet) (front more : List ℕ) → 1 ≤ length front → (get_or front 0 0 ≡ 0x1B → ⊥) → set ≡ set_of mode → is_jis_lead set (get_or front 0 0) ≡ false
     → iso_2022_jp_unit q mode (front ++ more) ≡ whole_unit (Within set) (single_scalar set (get_or front 0 0)) 1
 single_front q mode set front more h differs is e = ap (iso_2022_jp_unit q mode) (front_of_one front more h) ∙ (of_set q mode set _ _ differs is ∙ of_single q set _ _ e)
+
+-- a byte that is itself
+plain_scalar : (b : ℕ) → 0x20 ≤ b → b < 0x80 → ascii_scalar b ≡ Some b
+unfolding ascii_scalar
+plain_scalar b low high =
+    let e = ne_eqb b 0x0E (λ e. omega arith) in
+    let f = ne_eqb b 0x0F (λ e. omega arith) in
+    let g = ne_eqb b 0x1B (λ e. omega arith) in
+    let h = lt-ltb b 0x80 high in
+    rw (e, f, g, h) refl
+
+pub plain_front : (q : Places) (mode : Mode) (front more : List ℕ) → 1 ≤ length front → IsPlain mode (get_or front 0 0)
+    → iso_2022_jp_unit q mode (front ++ more) ≡ scalar_at mode (get_or front 0 0) 1
+plain_front q mode front more h plain =
+    rw plain.set
+    (single_front q (Within JisSet.Ascii) JisSet.Ascii front more h (λ e. absurd (omega (arith, plain.past_controls))) refl refl
+    ∙ ap (λ o. whole_unit (Within JisSet.Ascii) o 1) (plain_scalar (get_or front 0 0) plain.past_controls plain.ascii))
 
 -- a lead at a front, in a set
 pub record BeginsPair (mode : Mode) (set : JisSet) (front : List ℕ) : Type 0 where

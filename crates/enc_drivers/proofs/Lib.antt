@@ -1,4 +1,5 @@
 pub mod CallLemmas
+pub mod CopiedText
 pub mod EncodeAscii
 pub mod EncodeCalls
 pub mod EncodeSteps
@@ -18,9 +19,11 @@ pub mod PairSteps
 pub mod Spelled
 pub mod StepLemmas
 pub mod TextScalars
+pub mod ToldEntries
 pub mod Turns
 pub mod UnitLemmas
 pub mod Utf16Steps
+pub mod Utf8Leads
 pub mod Utf8Rows
 pub mod Utf8RoundTrip
 pub mod Utf8Steps

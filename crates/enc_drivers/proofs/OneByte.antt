@@ -1,10 +1,10 @@
 -- What one byte decides.
-use Rattle.std.proofs.Common.{◌≡◌, ℕ, ◌<◌, List, [], ◌∷◌, ◌++◌, true, false, length, get_or, map, take, Bool, Option, Some, None, refl, ap, ap₂, sym, subst, ◌∙◌, arith}
+use Rattle.std.proofs.Common.{◌≡◌, ℕ, ◌<◌, List, [], ◌∷◌, ◌++◌, true, false, length, get_or, map, Bool, Option, Some, None, refl, ap, ap₂, sym, subst, ◌∙◌, arith}
 use lib.Lanes.{Each1}
 use Rattle.std.specs.Option.{option_map_or}
 use Rattle.std.specs.Prelude.{nat_le, nat_lt, IfSome}
-use Rattle.std.proofs.lemmas.Bool.{lt-leb, lt-ltb, le-ltb, leb-true, ltb-true, ltb-false}
-use Rattle.std.proofs.lemmas.List.Elements.{All-head, All-tail, All-take}
+use Rattle.std.proofs.lemmas.Bool.{lt-leb, lt-ltb, ltb-true, ltb-false}
+use Rattle.std.proofs.lemmas.List.Elements.{All-head, All-tail}
 use Rattle.enc_drivers.specs.declared.unit.Item.{Item}
 use Rattle.enc_drivers.specs.declared.unit.Item.TheVariants.{One, Malformed}
 use Rattle.enc_drivers.specs.Bulk.{BeginsWithScalar, IsScalarOf, IsItemEntry, ReadsEntries}

@@ -1,6 +1,6 @@
 -- The rows of the table, from facts about bytes.
-use Rattle.std.proofs.Common.{◌≡◌, ℕ, ◌<◌, ◌≤◌, Bool, true, false, cond, ltb, List, length, get_or, refl, ap, ◌∙◌, arith}
-use Rattle.std.specs.Prelude.{◌&&◌, ◌||◌}
+use Rattle.std.proofs.Common.{◌≡◌, ℕ, ◌<◌, ◌≤◌, Bool, true, false, ltb, List, length, get_or, refl, arith}
+use Rattle.std.specs.Prelude.{◌&&◌}
 use Rattle.std.proofs.lemmas.Bool.{and_parts, and_from, lt-ltb, le-leb}
 use Rattle.enc_handles.specs.Utf8.{byte_in, is_tail_at, begins_two, begins_three, begins_four, sequence_len}
 use Rattle.enc_drivers.specs.Lemmas.Utf8Law.{ByteAt, byte_at}
@@ -187,30 +187,3 @@ long_lead bytes (kind_one e h) long = absurd (omega arith)
 long_lead bytes (kind_two e l h) long = (l, omega arith)
 long_lead bytes (kind_three e l h) long = (omega arith, omega arith)
 long_lead bytes (kind_four e l h) long = (omega arith, h)
-
-same_of_four : (a b c d : Bool) (n z : ℕ) → cond a n (cond b n (cond c n (cond d n z))) ≡ cond (a || b || c || d) n z
-same_of_four true b c d n z = refl
-same_of_four false true c d n z = refl
-same_of_four false false true d n z = refl
-same_of_four false false false true n z = refl
-same_of_four false false false false n z = refl
-
-same_of_three : (a b c : Bool) (n z : ℕ) → cond a n (cond b n (cond c n z)) ≡ cond (a || b || c) n z
-same_of_three true b c n z = refl
-same_of_three false true c n z = refl
-same_of_three false false true n z = refl
-same_of_three false false false n z = refl
-
--- the length of the sequence at the front, with the rows of one length together
-pub sequence_len_short : (bytes : List ℕ) → sequence_len bytes
-    ≡ cond (byte_in bytes 0 0x00 0x7F) 1 (cond (begins_two bytes 0xC2 0xDF) 2
-    (cond (begins_three bytes 0xE0 0xE0 0xA0 0xBF || begins_three bytes 0xE1 0xEC 0x80 0xBF || begins_three bytes 0xED 0xED 0x80 0x9F || begins_three bytes 0xEE 0xEF 0x80 0xBF) 3
-    (cond (begins_four bytes 0xF0 0xF0 0x90 0xBF || begins_four bytes 0xF1 0xF3 0x80 0xBF || begins_four bytes 0xF4 0xF4 0x80 0x8F) 4 0)))
-unfolding sequence_len
-sequence_len_short bytes =
-    let four = same_of_three (begins_four bytes 0xF0 0xF0 0x90 0xBF) (begins_four bytes 0xF1 0xF3 0x80 0xBF) (begins_four bytes 0xF4 0xF4 0x80 0x8F) 4 0 in
-    let three = same_of_four (begins_three bytes 0xE0 0xE0 0xA0 0xBF) (begins_three bytes 0xE1 0xEC 0x80 0xBF) (begins_three bytes 0xED 0xED 0x80 0x9F) (begins_three bytes 0xEE 0xEF 0x80 0xBF) 3
-    (cond (begins_four bytes 0xF0 0xF0 0x90 0xBF || begins_four bytes 0xF1 0xF3 0x80 0xBF || begins_four bytes 0xF4 0xF4 0x80 0x8F) 4 0) in
-    ap (λ z. cond (byte_in bytes 0 0x00 0x7F) 1 (cond (begins_two bytes 0xC2 0xDF) 2
-    (cond (begins_three bytes 0xE0 0xE0 0xA0 0xBF) 3 (cond (begins_three bytes 0xE1 0xEC 0x80 0xBF) 3 (cond (begins_three bytes 0xED 0xED 0x80 0x9F) 3 (cond (begins_three bytes 0xEE 0xEF 0x80 0xBF) 3 z)))))) four
-    ∙ ap (λ z. cond (byte_in bytes 0 0x00 0x7F) 1 (cond (begins_two bytes 0xC2 0xDF) 2 z)) three

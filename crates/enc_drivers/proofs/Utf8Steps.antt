@@ -214,9 +214,6 @@ begun_undecided mode front some none whole lead = by_length (cases_lt 1 (length 
         undecided c.more c.are (subst (λ l. 0 < sequence_len (l ++ c.more)) (sym one) c.is)
 
 -- The scalar of a sequence is one, and `char::from_u32` gives it.
-pub sequence_scalar_is : (bytes : List ℕ) → 0 < sequence_len bytes → IsScalar (sequence_scalar bytes)
-sequence_scalar_is bytes h = (sequence-Decodes bytes h).scalar
-
 pub some_scalar : (o : Option ℕ) (c : ℕ) → SomeIff o (IsScalar c) c → IsScalar c → IsSome o
 some_scalar None c h s = absurd (h s)
 some_scalar (Some x) c h s = refl

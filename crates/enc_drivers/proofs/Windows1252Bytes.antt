@@ -3,7 +3,7 @@ use Rattle.std.proofs.Common.{◌≡◌, ℕ, ◌+◌, ◌-◌, ◌%◌, ◌<◌
 use Rattle.std.specs.Prelude.{nat_le, nat_lt, ◌&&◌, ◌==◌, Option, Some, None, option_map}
 use Rattle.std.proofs.lemmas.Bool.{agree_below_at, eqb-true, ne_eqb, cases_lt, true≢false}
 use Rattle.std.proofs.lemmas.Bool.Decides.{nat_tests}
-use Rattle.enc_drivers.specs.declared.codes.windows_1252.encode.TheConstants.{PLACES}
+use Rattle.enc_drivers.specs.declared.codes.windows_1252.TheConstants.{PLACES}
 use Rattle.enc_drivers.specs.Lookup.{holds, least_place}
 use Rattle.enc_drivers.specs.Codes.SingleByte.{single_byte_bytes_of}
 use Rattle.enc_drivers.specs.Codes.Windows1252.{windows_1252_table, windows_1252_scalar, windows_1252_places, windows_1252_bytes_of}

@@ -83,7 +83,8 @@ pub trait Code {
     /// mode. `None` is right for every code.
     fn block(&self, bytes: &[u8]) -> Option<[u32; 8]>
         requires { 8 ≤ length bytes.now }
-        ensures { IfSome result (λ entries. ReadsEntries (unit self.now) (take 8 bytes.now) entries) }
+        ensures { IfSome result (λ entries. ReadsEntries (unit self.now) (take 8 bytes.now)
+            entries) }
     {
         let _ = bytes;
         None

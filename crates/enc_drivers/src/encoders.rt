@@ -10,6 +10,7 @@ ghost use Rattle.enc_handles.specs.CharSource.{reading, unread_place};
 ghost use Rattle.enc_handles.specs.Scalars.{scalars16, is_seam8, is_seam16};
 ghost use Rattle.enc_drivers.specs.Encode.{IsAsciiCompatible, MapsNoAstral};
 ghost use Rattle.enc_drivers.specs.Encodes.{EncodesRaw, unmappable_of};
+ghost use Rattle.enc_drivers.specs.Codes.Utf8.{utf8_bytes_of};
 ghost use Rattle.enc_drivers.specs.Encoding.{Encodes, EndsEncoding, EndsOrEncodes, EndsEncodingIf, CopiesAscii, ReadsNext, Writes, unmappable_if_ends, result_if_err};
 
 use crate::encode::EncodeCode;
@@ -382,4 +383,22 @@ pub fn ascii_compatible_bmp_encode_from_utf16_raw<C: EncodeCode>(
         src.now dst.old dst.new result }
 {
     ascii_compatible_encode_from_utf16_raw(code, src, dst, last)
+}
+
+/// `encode_from_utf8_raw` for UTF-8 itself, which is copied in one go, up to a character that has
+/// no room as a whole.
+pub fn utf8_encode_from_utf8_raw(
+    src: &str,
+    dst: &mut [u8],
+    last: bool,
+) -> (EncoderResult, usize, usize)
+    ensures { EncodesRaw chars is_seam8 utf8_bytes_of 4 src.now dst.old dst.new result }
+{
+    let _ = last;
+    let fitting = src.floor_char_boundary(dst.len());
+    dst[..fitting].copy_from_slice(&src.as_bytes()[..fitting]);
+    if fitting < src.len() {
+        return (EncoderResult::OutputFull, fitting, fitting);
+    }
+    (EncoderResult::InputEmpty, fitting, fitting)
 }

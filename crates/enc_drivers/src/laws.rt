@@ -236,7 +236,8 @@ pub fn units_in_order()
     ensures none { (unit : Code) (mode : Mode) → units unit mode [] ≡ [] }
     ensures some { (unit : Code) → IsCode unit → (mode : Mode) (bytes : List ℕ) → AreBytes bytes
         → 0 < length bytes →
-        let u = unit mode bytes in units unit mode bytes ≡ (u.item, u.len) ∷ units unit u.next (drop u.len bytes) }
+        let u = unit mode bytes in
+        units unit mode bytes ≡ (u.item, u.len) ∷ units unit u.next (drop u.len bytes) }
 {}
 
 /// The units of bytes cover them: no byte is in none of them, or in two.

@@ -19,15 +19,23 @@ pub(crate) fn scalar_of(item: Item, length: usize) -> Option<(char, usize)>
     }
 }
 
+// So many bytes that stand for an item and keep the mode.
+#[inline(always)]
+pub(crate) fn unit(mode: Mode, item: Item, length: u8) -> Step
+    ensures { result ≡ step.Unit item length mode }
+{
+    Step::Unit {
+        item,
+        length,
+        next: mode,
+    }
+}
+
 // So many malformed bytes.
 pub(crate) fn malformed(mode: Mode, length: u8) -> Step
     ensures { result ≡ step.Unit Malformed length mode }
 {
-    Step::Unit {
-        item: Item::Malformed,
-        length,
-        next: mode,
-    }
+    unit(mode, Item::Malformed, length)
 }
 
 // What bytes tell that are malformed at the end, and may go on before it.

@@ -1,11 +1,13 @@
 //! What the tests of codes and drivers share.
-ghost use Rattle.std.specs.Prelude.{◌≡◌, ◌<◌, ◌≤◌, ◌==◌, if◌then◌else◌, None, Some};
+ghost use Rattle.std.specs.Prelude.{◌≡◌, ◌<◌, ◌≤◌, ◌==◌, if◌then◌else◌, None, Some, slice_set, replicate};
 ghost use Rattle.std.proofs.Common.{rules};
+ghost use Rattle.enc_handles.specs.Entries.{entry_of};
 
 use crate::code::{Code, Step};
 use crate::drivers::general::GeneralDriver;
 use crate::lookup::Lookup;
 use crate::{Item, Mode};
+use enc_handles::entry::entry_of;
 use enc_handles::results::DecoderResult;
 use std::alloc::Global;
 use std::process::Abort;
@@ -73,6 +75,43 @@ impl Lookup for Alphas {
     fn at(&self, place: u32) -> Option<char> {
         let _ = place;
         Some('\u{3b1}')
+    }
+}
+
+// An index with one scalar everywhere, which tells its entries; of bytes that of 80 alone.
+#[derive(Drop)]
+pub(crate) struct Told {
+    table: [u32; 256],
+    ghost told: { table ≡ slice_set (replicate 256 0) 0x80 (entry_of 0x3B1) },
+}
+
+impl Told {
+    pub(crate) fn new() -> Told {
+        let mut table = [0; 256];
+        table[0x80] = entry_of(0x3B1);
+        Told { table }
+    }
+}
+
+impl Lookup for Told {
+    ghost places = { λ index place. Some 0x3B1 };
+
+    ghost scalars = { λ index place. Prim.search rules };
+
+    fn at(&self, place: u32) -> Option<char> {
+        let _ = place;
+        Some('\u{3b1}')
+    }
+
+    #[tactic(auto, using(crate::proofs::ToldEntries::told_bytes))]
+    fn byte_entries(&self) -> Option<&[u32; 256]> {
+        Some(&self.table)
+    }
+
+    #[tactic(auto, using(crate::proofs::ToldEntries::told_place))]
+    fn entry(&self, place: u32) -> u32 {
+        let _ = place;
+        entry_of(0x3B1)
     }
 }
 

@@ -1,5 +1,5 @@
 -- The units of ISO-2022-JP (Encoding Standard, section 12.2.1, ISO-2022-JP decoder).
-use Rattle.std.specs.Prelude.{ℕ, ◌+◌, ◌-◌, ◌*◌, ◌/◌, ◌%◌, Bool, false, ◌==◌, ◌&&◌, ◌||◌, nat_le, nat_lt, if◌then◌else◌, List, [], ◌∷◌, Option, Some, None}
+use Rattle.std.specs.Prelude.{◌≡◌, ◌<◌, ◌≤◌, ℕ, ◌+◌, ◌-◌, ◌*◌, ◌/◌, ◌%◌, Bool, false, ◌==◌, ◌&&◌, ◌||◌, nat_le, nat_lt, if◌then◌else◌, List, [], ◌∷◌, Option, Some, None}
 use Rattle.enc_drivers.specs.declared.unit.Item.{Item}
 use Rattle.enc_drivers.specs.declared.unit.Item.TheVariants.{Malformed, Silent}
 use Rattle.enc_drivers.specs.declared.unit.JisSet.{JisSet}
@@ -61,6 +61,12 @@ single_scalar Ascii b = ascii_scalar b
 single_scalar Roman b = roman_scalar b
 single_scalar Katakana b = katakana_scalar b
 single_scalar Jis0208 b = None
+
+-- ASCII is the set, and the byte is one of it past the controls
+pub record IsPlain (mode : Mode) (byte : ℕ) : Type 0 where
+  pub set : mode ≡ Within Ascii
+  pub past_controls : 0x20 ≤ byte
+  pub ascii : byte < 0x80
 
 -- a byte of a scalar of jis0208
 abbrev pub in_jis_row : ℕ → Bool

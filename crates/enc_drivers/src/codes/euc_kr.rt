@@ -1,15 +1,13 @@
-//! EUC-KR (Encoding Standard, section 13.1.1, EUC-KR decoder).
-
+//! EUC-KR (Encoding Standard, section 13.1: 13.1.1, EUC-KR decoder, and 13.1.2, EUC-KR encoder).
 ghost use Rattle.std.specs.Prelude.{◌≡◌, ◌<◌, ◌≤◌, true};
 ghost use Rattle.enc_drivers.specs.Codes.EucKr.{is_euc_kr_lead, is_euc_kr_trail, euc_kr_place, euc_kr_pairs, euc_kr_unit, euc_kr_bytes_of};
 
 use crate::code::{Bulk, Code, Step};
 use crate::codes::pairs::{self, PairCode};
-use crate::encode::EncodeCode;
+use crate::encode::{EncodeCode, Encoded};
 use crate::lookup::Lookup;
 use crate::{Item, Mode};
 
-mod encode;
 #[cfg(test)]
 mod tests;
 
@@ -98,4 +96,31 @@ fn place(lead: u8, trail: u8) -> u32
     ensures { result ≡ euc_kr_place lead trail }
 {
     u32::from(lead - 0x81) * 190 + u32::from(trail - 0x41)
+}
+
+impl<'t, L: Lookup> EncodeCode for EucKr<'t, L> {
+    ghost use Rattle.enc_drivers.specs.Codes.EucKr.{euc_kr_bytes_of};
+    ghost use Rattle.enc_drivers.specs.Lemmas.EncoderLaws.{euc_kr_encoder};
+
+    ghost bytes = { λ code. euc_kr_bytes_of (L.places code.index.now) };
+
+    ghost max = { 2 };
+
+    #[inline(always)]
+    fn max(&self) -> usize {
+        2
+    }
+
+    #[inline(always)]
+    #[tactic(auto, unfolding(crate::specs::Codes::EucKr::euc_kr_bytes_of))]
+    fn bytes_of(&self, scalar: char) -> Option<Encoded> {
+        let code = u32::from(scalar);
+        if code < 0x80 {
+            return Some(Encoded::one(code as u8));
+        }
+        let place = self.index.place_of(scalar, 23940)?;
+        Some(Encoded::two((place / 190 + 0x81) as u8, (place % 190 + 0x41) as u8))
+    }
+
+    ghost laws = { λ code. euc_kr_encoder (L.places code.index.now) };
 }

@@ -1,18 +1,17 @@
-//! gb18030, and GBK, which decodes alike (Encoding Standard, section 10.2.1, gb18030 decoder).
-
+//! gb18030, and GBK, which decodes alike (Encoding Standard, sections 10.2.1, gb18030 decoder, and
+//! 10.2.2, gb18030 encoder).
 ghost use Rattle.std.specs.Prelude.{◌≡◌, ◌<◌, ◌≤◌, true, length, slice_index};
 ghost use Rattle.enc_drivers.specs.Lookup.{IsEntryOf};
 ghost use Rattle.enc_drivers.specs.Steps.{Steps};
-ghost use Rattle.enc_drivers.specs.Codes.Gb18030.{is_gb18030_lead, is_gb18030_digit, is_gb18030_trail, gb18030_scalar, ranges_place, gb18030_unit, gb18030_bytes_of};
+ghost use Rattle.enc_drivers.specs.Codes.Gb18030.{is_gb18030_lead, is_gb18030_digit, is_gb18030_trail, gb18030_scalar, ranges_place, gb18030_unit, gb18030_bytes_of, gb18030_bytes, ranges_bytes};
 
 use crate::Mode;
 use crate::code::{Bulk, Code, Step};
 use crate::codes::sequence::{one, sequence, whole};
-use crate::encode::EncodeCode;
+use crate::encode::{EncodeCode, Encoded};
 use crate::lookup::Lookup;
 use crate::steps::{cut, malformed};
 
-mod encode;
 #[cfg(test)]
 mod tests;
 
@@ -190,4 +189,70 @@ fn ranges_place(first: u8, second: u8, third: u8, fourth: u8) -> u32
 {
     let high = u32::from(first - 0x81) * 12600 + u32::from(second - 0x30) * 1260;
     high + u32::from(third - 0x81) * 10 + u32::from(fourth - 0x30)
+}
+
+impl<'t, L: Lookup, R: Lookup> EncodeCode for Gb18030<'t, L, R> {
+    ghost use Rattle.enc_drivers.specs.Codes.Gb18030.{gb18030_bytes_of};
+    ghost use Rattle.enc_drivers.specs.Lemmas.EncoderLaws.{gb18030_encoder};
+
+    ghost bytes = { λ code. gb18030_bytes_of code.gbk (L.places code.index.now)
+        (R.places code.ranges.now) };
+
+    ghost max = { 4 };
+
+    #[inline(always)]
+    fn max(&self) -> usize {
+        4
+    }
+
+    #[inline(always)]
+    #[tactic(auto, unfolding(crate::specs::Codes::Gb18030::gb18030_bytes_of))]
+    fn bytes_of(&self, scalar: char) -> Option<Encoded> {
+        let code = u32::from(scalar);
+        if code < 0x80 {
+            return Some(Encoded::one(code as u8));
+        }
+        if code == 0xE5E5 {
+            return None;
+        }
+        if self.gbk && code == 0x20AC {
+            return Some(Encoded::one(0x80));
+        }
+        if let Some(place) = self.index.place_of(scalar, 23940) {
+            return Some(two_bytes(place));
+        }
+        if self.gbk {
+            return None;
+        }
+        let place = self.ranges.place_of(scalar, 1237576)?;
+        Some(four_bytes(place))
+    }
+
+    ghost laws = { λ code. gb18030_encoder code.gbk (L.places code.index.now)
+        (R.places code.ranges.now) };
+}
+
+// The two bytes of a place of the index.
+#[inline(always)]
+fn two_bytes(place: u32) -> Encoded
+    requires { place < 23940 }
+    ensures { result ≡ gb18030_bytes place }
+{
+    let trail = place % 190;
+    let offset = if trail < 0x3F { 0x40 } else { 0x41 };
+    Encoded::two((place / 190 + 0x81) as u8, (trail + offset) as u8)
+}
+
+// The four bytes of a place of the ranges.
+#[inline(always)]
+fn four_bytes(place: u32) -> Encoded
+    requires { place < 1237576 }
+    ensures { result ≡ ranges_bytes place }
+{
+    Encoded::four(
+        (place / 12600 + 0x81) as u8,
+        (place % 12600 / 1260 + 0x30) as u8,
+        (place % 1260 / 10 + 0x81) as u8,
+        (place % 10 + 0x30) as u8,
+    )
 }

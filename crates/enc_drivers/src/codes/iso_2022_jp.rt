@@ -1,12 +1,13 @@
 //! ISO-2022-JP (Encoding Standard, section 12.2.1, ISO-2022-JP decoder).
 
-ghost use Rattle.std.specs.Prelude.{◌≡◌, ◌<◌, ◌≤◌, ◌==◌, ◌||◌, length, slice_index};
+ghost use Rattle.std.specs.Prelude.{◌≡◌, ◌<◌, ◌≤◌, ◌==◌, ◌||◌, length, slice_index, true};
 ghost use Rattle.enc_drivers.specs.declared.code.Step.TheVariants as step;
 ghost use Rattle.enc_drivers.specs.Steps.{Steps};
 ghost use Rattle.enc_drivers.specs.Codes.Iso2022Jp.{set_of, escape_item, escape_set, escaped, ascii_scalar, roman_scalar, katakana_scalar, single_scalar, in_jis_row, is_jis_lead, iso_2022_jp_unit};
+ghost use Rattle.enc_drivers.specs.Codes.Iso2022Jp.{IsPlain};
 
 use crate::code::{Code, Step};
-use crate::codes::sequence::whole;
+use crate::codes::sequence::{one, whole};
 use crate::lookup::Lookup;
 use crate::steps::{cut, malformed};
 use crate::{Item, JisSet, Mode};
@@ -58,6 +59,9 @@ impl<'t, L: Lookup> Code for Iso2022Jp<'t, L> {
     #[inline(always)]
     fn step(&self, mode: Mode, front: &[u8], last: bool) -> Step {
         let first = front[0];
+        if is_plain(mode, first) {
+            return one(mode, char::from(first), 1);
+        }
         if first == 0x1B {
             return self.escape_step(mode, front, last);
         }
@@ -80,7 +84,19 @@ impl<'t, L: Lookup> Code for Iso2022Jp<'t, L> {
         whole(next, self.jis0208.at(place), 2)
     }
 
-    ghost laws = { λ code. iso_2022_jp_law (L.places code.jis0208.now) (L.scalars code.jis0208.now) };
+    ghost laws = { λ code. iso_2022_jp_law (L.places code.jis0208.now)
+        (L.scalars code.jis0208.now) };
+}
+
+// Whether ASCII is the set, and a byte is itself there and no control: most bytes of mail.
+#[inline(always)]
+fn is_plain(mode: Mode, byte: u8) -> bool
+    ensures { result ≡ true → IsPlain mode byte }
+{
+    if let Mode::Within(JisSet::Ascii) = mode {
+        return 0x20 <= byte && byte < 0x80;
+    }
+    false
 }
 
 // The set that a mode is in.

@@ -2,12 +2,11 @@
 
 ghost use Rattle.std.specs.Prelude.{◌≡◌, ◌<◌, ◌≤◌, ◌&&◌, Option, IfSome, length, nat_lt, if◌then◌else◌};
 ghost use Rattle.enc_drivers.specs.Bulk.{BeginsWithScalar, IsItemEntry, IsPairEntry};
-ghost use Rattle.enc_drivers.specs.declared.code.Step.TheVariants as step;
 ghost use Rattle.enc_drivers.specs.Codes.Pairs.{ascii_alone, is_between, item_found, both_len, pairs_unit};
 ghost use Rattle.enc_drivers.specs.Steps.{Steps};
 
 use crate::code::Step;
-use crate::steps::{cut, scalar_of};
+use crate::steps::{cut, scalar_of, unit};
 use crate::{Item, Mode};
 
 // What a code of a lead and a byte behind it says of its bytes.
@@ -55,13 +54,14 @@ pub(crate) fn step<P: PairCode>(pairs: &P, mode: Mode, front: &[u8], last: bool)
 {
     let first = front[0];
     if !pairs.is_lead(first) {
-        return alone(mode, pairs.alone(first));
+        return unit(mode, pairs.alone(first), 1);
     }
     if front.len() < 2 {
         return cut(mode, 1, last);
     }
     let second = front[1];
-    both(mode, pairs.both(first, second), second)
+    let item = pairs.both(first, second);
+    unit(mode, item, both_len(item, second))
 }
 
 // The scalar at the front, and how many bytes it has.
@@ -81,29 +81,9 @@ pub(crate) fn scalar<P: PairCode>(pairs: &P, bytes: &[u8]) -> Option<(char, usiz
     scalar_of(pairs.both(first, bytes[1]), 2)
 }
 
-// One byte that stands for an item.
-fn alone(mode: Mode, item: Item) -> Step
-    ensures { result ≡ step.Unit item 1 mode }
-{
-    Step::Unit {
-        item,
-        length: 1,
-        next: mode,
-    }
-}
-
-// Two bytes that stand for an item, or fail.
+// How many bytes a lead has with the byte behind it, which isn't in the unit where it is ASCII and
+// they fail.
 #[inline(always)]
-fn both(mode: Mode, item: Item, second: u8) -> Step
-    ensures { result ≡ step.Unit item (both_len item second) mode }
-{
-    Step::Unit {
-        item,
-        length: both_len(item, second),
-        next: mode,
-    }
-}
-
 fn both_len(item: Item, second: u8) -> u8
     ensures { result ≡ both_len item second }
 {

@@ -5,7 +5,7 @@ ghost use Rattle.enc_drivers.specs.declared.code.Step.TheVariants as step;
 ghost use Rattle.enc_drivers.specs.Codes.Sequence.{sequence_unit, whole_unit};
 
 use crate::code::Step;
-use crate::steps::malformed;
+use crate::steps::{malformed, unit};
 use crate::{Item, Mode};
 
 // So many bytes, of which `last` is the last, with the scalar that they have: without one they are
@@ -36,9 +36,5 @@ pub(crate) fn whole(mode: Mode, scalar: Option<char>, length: u8) -> Step
 pub(crate) fn one(mode: Mode, scalar: char, length: u8) -> Step
     ensures { result ≡ step.Unit (Item.One scalar) length mode }
 {
-    Step::Unit {
-        item: Item::One(scalar),
-        length,
-        next: mode,
-    }
+    unit(mode, Item::One(scalar), length)
 }

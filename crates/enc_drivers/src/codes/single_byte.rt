@@ -1,18 +1,15 @@
-//! Encodings of one byte a scalar with an index (Encoding Standard, section 9.1, single-byte
-//! decoder).
-
+//! Encodings of one byte a scalar with an index (Encoding Standard, sections 9.1, single-byte
+//! decoder, and 9.2, single-byte encoder).
 ghost use Rattle.std.specs.Prelude.{◌≡◌, ◌<◌, ◌≤◌, length, slice_index, take, IfSome};
-ghost use Rattle.enc_drivers.specs.Codes.SingleByte.{TellsEach};
+ghost use Rattle.enc_drivers.specs.Codes.SingleByte.{single_byte_item, single_byte_unit, single_byte_bytes_of, TellsEach};
 ghost use Rattle.enc_drivers.specs.Lookup.{HasNoAstral};
-ghost use Rattle.enc_drivers.specs.Codes.SingleByte.{single_byte_item, single_byte_unit, single_byte_bytes_of};
 
 use crate::code::{Bulk, Code, Step};
-use crate::encode::EncodeCode;
+use crate::encode::{EncodeCode, Encoded};
 use crate::lookup::Lookup;
 use crate::steps::scalar_of;
 use crate::{Item, Mode};
 
-mod encode;
 #[cfg(test)]
 mod tests;
 
@@ -66,7 +63,8 @@ impl<'t, L: Lookup> Code for SingleByte<'t, L> {
         block_of(entries, bytes)
     }
 
-    ghost laws = { λ code. single_byte_law (L.places code.index.now) (L.scalars code.index.now) code.no_astral };
+    ghost laws = { λ code. single_byte_law (L.places code.index.now) (L.scalars code.index.now)
+        code.no_astral };
 }
 
 // The entries of the first eight bytes, where each has one.
@@ -108,4 +106,31 @@ fn item_of<L: Lookup>(index: &L, byte: u8) -> Item
         Some(scalar) => Item::One(scalar),
         None => Item::Malformed,
     }
+}
+
+impl<'t, L: Lookup> EncodeCode for SingleByte<'t, L> {
+    ghost use Rattle.enc_drivers.specs.Codes.SingleByte.{single_byte_bytes_of};
+    ghost use Rattle.enc_drivers.specs.Lemmas.EncoderLaws.{single_byte_encoder};
+
+    ghost bytes = { λ code. single_byte_bytes_of (L.places code.index.now) };
+
+    ghost max = { 1 };
+
+    #[inline(always)]
+    fn max(&self) -> usize {
+        1
+    }
+
+    #[inline(always)]
+    #[tactic(auto, unfolding(crate::specs::Codes::SingleByte::single_byte_bytes_of))]
+    fn bytes_of(&self, scalar: char) -> Option<Encoded> {
+        let code = u32::from(scalar);
+        if code < 0x80 {
+            return Some(Encoded::one(code as u8));
+        }
+        let place = self.index.place_of(scalar, 128)?;
+        Some(Encoded::one((place + 0x80) as u8))
+    }
+
+    ghost laws = { λ code. single_byte_encoder (L.places code.index.now) };
 }

@@ -1,13 +1,12 @@
-//! x-user-defined (Encoding Standard, section 14.5).
-
+//! x-user-defined (Encoding Standard, sections 14.5.1, x-user-defined decoder, and 14.5.2,
+//! x-user-defined encoder).
 ghost use Rattle.std.specs.Prelude.{◌≡◌};
 ghost use Rattle.enc_drivers.specs.Codes.UserDefined.{user_defined_scalar, user_defined_unit, user_defined_bytes_of};
 
 use crate::code::{Bulk, Code, Step};
-use crate::encode::EncodeCode;
+use crate::encode::{EncodeCode, Encoded};
 use crate::{Item, Mode};
 
-mod encode;
 #[cfg(test)]
 mod tests;
 
@@ -62,4 +61,33 @@ fn scalar_of(byte: u8) -> char
     } else {
         char::from_u32(0xF780 + u32::from(byte - 0x80)).unwrap()
     }
+}
+
+impl EncodeCode for UserDefined {
+    ghost use Rattle.enc_drivers.specs.Codes.UserDefined.{user_defined_bytes_of};
+    ghost use Rattle.enc_drivers.specs.Lemmas.EncoderLaws.{user_defined_encoder};
+
+    ghost bytes = { λ code. user_defined_bytes_of };
+
+    ghost max = { 1 };
+
+    #[inline(always)]
+    fn max(&self) -> usize {
+        1
+    }
+
+    #[inline(always)]
+    #[tactic(auto, unfolding(crate::specs::Codes::UserDefined::user_defined_bytes_of))]
+    fn bytes_of(&self, scalar: char) -> Option<Encoded> {
+        let code = u32::from(scalar);
+        if code < 0x80 {
+            return Some(Encoded::one(code as u8));
+        }
+        if 0xF780 <= code && code <= 0xF7FF {
+            return Some(Encoded::one((code - 0xF780 + 0x80) as u8));
+        }
+        None
+    }
+
+    ghost laws = { λ code. user_defined_encoder };
 }

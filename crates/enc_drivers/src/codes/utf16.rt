@@ -1,20 +1,21 @@
-//! UTF-16 in either byte order (Encoding Standard, section 14.2.1, shared UTF-16 decoder).
-
+//! UTF-16 in either byte order (Encoding Standard, section 14.2.1, shared UTF-16 decoder). Text for
+//! it is written as UTF-8 (section 4.3, "get an output encoding").
 ghost use Rattle.std.specs.Prelude.{◌≡◌, ◌<◌, ◌≤◌, true, false, length};
 ghost use Rattle.enc_handles.specs.Utf16.{code_unit, is_lead, is_trail, pair_scalar};
-ghost use Rattle.enc_drivers.specs.declared.code.Step.TheVariants as step;
 ghost use Rattle.enc_drivers.specs.Steps.{Steps};
 ghost use Rattle.enc_drivers.specs.Codes.Utf16.{single_unit, utf16_unit};
 ghost use Rattle.enc_drivers.specs.Codes.Utf8.{utf8_bytes_of};
+ghost use Rattle.enc_drivers.specs.declared.code.Step.TheVariants as step;
 
 use crate::code::{Bulk, Code, Step};
-use crate::encode::EncodeCode;
+use crate::codes::utf8::utf8_of;
+use crate::encode::{EncodeCode, Encoded};
 use crate::steps::{cut, malformed};
 use crate::{Item, Mode};
 use enc_handles::endian::Endian;
+use enc_handles::utf16::{is_lead, is_trail, pair_scalar};
 use std::marker::PhantomData;
 
-mod encode;
 #[cfg(test)]
 mod tests;
 
@@ -74,7 +75,7 @@ fn step(big: bool, mode: Mode, front: &[u8], last: bool) -> Step
         return malformed(mode, 2);
     }
     Step::Unit {
-        item: Item::One(pair_char(first, second)),
+        item: Item::One(pair_scalar(first, second)),
         length: 4,
         next: mode,
     }
@@ -95,17 +96,6 @@ fn single(mode: Mode, unit: u16) -> Step
     }
 }
 
-// The scalar of a surrogate pair.
-fn pair_char(lead: u16, trail: u16) -> char
-    requires lead { is_lead lead ≡ true }
-    requires trail { is_trail trail ≡ true }
-    ensures { result ≡ pair_scalar lead trail }
-{
-    let high = u32::from(lead) - 0xD800;
-    let low = u32::from(trail) - 0xDC00;
-    char::from_u32(0x1_0000 + high * 0x400 + low).unwrap()
-}
-
 // The code unit of two bytes.
 fn code_unit(big: bool, first: u8, second: u8) -> u16
     ensures { result ≡ code_unit big first second }
@@ -117,16 +107,24 @@ fn code_unit(big: bool, first: u8, second: u8) -> u16
     }
 }
 
-// Whether a code unit is a leading surrogate.
-fn is_lead(unit: u16) -> bool
-    ensures { result ≡ is_lead unit }
-{
-    0xD800 <= unit && unit <= 0xDBFF
-}
+impl<E: Endian> EncodeCode for Utf16Code<E> {
+    ghost use Rattle.enc_drivers.specs.Codes.Utf8.{utf8_bytes_of};
+    ghost use Rattle.enc_drivers.specs.Lemmas.EncoderLaws.{utf8_encoder};
 
-// Whether a code unit is a trailing surrogate.
-fn is_trail(unit: u16) -> bool
-    ensures { result ≡ is_trail unit }
-{
-    0xDC00 <= unit && unit <= 0xDFFF
+    ghost bytes = { λ code. utf8_bytes_of };
+
+    ghost max = { 4 };
+
+    #[inline(always)]
+    fn max(&self) -> usize {
+        4
+    }
+
+    #[inline(always)]
+    #[tactic(auto, unfolding(crate::specs::Codes::Utf8::utf8_bytes_of))]
+    fn bytes_of(&self, scalar: char) -> Option<Encoded> {
+        Some(utf8_of(scalar))
+    }
+
+    ghost laws = { λ code. utf8_encoder };
 }

@@ -1,19 +1,19 @@
-//! UTF-8 (Encoding Standard, section 8.1.1; the Unicode Standard, table 3-7).
-
-ghost use Rattle.std.specs.Prelude.{◌≡◌, ◌<◌, length, slice_index, ◌&&◌, ◌||◌, ◌==◌};
+//! UTF-8 (Encoding Standard, sections 8.1.1, UTF-8 decoder, and 8.1.2, UTF-8 encoder; the Unicode
+//! Standard, table 3-7).
+ghost use Rattle.std.specs.Prelude.{◌≡◌, ◌<◌, ◌≤◌, length, slice_index, ◌&&◌, ◌||◌, ◌==◌, not, encode_utf8};
+ghost use Rattle.enc_drivers.specs.Steps.{Steps};
 ghost use Rattle.enc_handles.specs.Utf8.{byte_in, begins_two, begins_three, begins_four, sequence_len, sequence_scalar};
 ghost use Rattle.enc_drivers.specs.Codes.Utf8.{begins_pair, two_of_three, two_of_four, malformed_len, utf8_unit, utf8_bytes_of};
+ghost use Rattle.std.specs.Char.{IsScalar};
 
 use crate::code::{Bulk, Code, Step};
-use crate::encode::EncodeCode;
+use crate::encode::{EncodeCode, Encoded};
 use crate::steps::{cut, malformed};
 use crate::{Item, Mode};
+use enc_handles::utf8::{byte_in, sequence_len, sequence_scalar};
 
-mod encode;
 #[cfg(test)]
 mod tests;
-
-pub(crate) use encode::utf8_of;
 
 /// The code of UTF-8.
 #[derive(Clone, Copy, Debug, PartialEq, Eq)]
@@ -34,55 +34,73 @@ impl Code for Utf8Code {
 
     ghost unit = { λ code. utf8_unit };
 
+    #[inline(always)]
     fn step(&self, mode: Mode, front: &[u8], last: bool) -> Step {
-        let whole = sequence_len(front);
-        if whole > 0 {
-            return Step::Unit {
-                item: Item::One(sequence_char(front)),
-                length: whole,
-                next: mode,
-            };
+        if begins_none(front) {
+            return malformed(mode, 1);
         }
-        let wrong = malformed_len(front);
-        if goes_on(front, wrong) {
-            return cut(mode, wrong, last);
-        }
-        malformed(mode, wrong)
+        step(mode, front, last)
     }
 
     fn bulk(&self) -> Bulk {
         Bulk::Utf8
     }
 
+    #[inline(always)]
+    fn scalar(&self, bytes: &[u8]) -> Option<(char, usize)> {
+        if begins_none(bytes) {
+            return None;
+        }
+        let length = sequence_len(bytes);
+        if length == 0 {
+            return None;
+        }
+        Some((sequence_char(bytes, length), length))
+    }
+
     ghost laws = { λ code. utf8_law };
 }
 
+// What a front tells of the unit there.
+fn step(mode: Mode, front: &[u8], last: bool) -> Step
+    requires some { 0 < length front.now }
+    requires few { length front.now ≤ 4 }
+    ensures { Steps utf8_unit mode front.now last result }
+{
+    let whole = sequence_len(front);
+    if whole > 0 {
+        return Step::Unit {
+            item: Item::One(sequence_char(front, whole)),
+            length: whole as u8,
+            next: mode,
+        };
+    }
+    let wrong = malformed_len(front);
+    if goes_on(front, wrong) {
+        return cut(mode, wrong, last);
+    }
+    malformed(mode, wrong)
+}
+
+// Whether the first byte begins no sequence.
+#[inline(always)]
+fn begins_none(front: &[u8]) -> bool
+    ensures { result ≡ (not (byte_in front.now 0 0x00 0x7F)
+        && not (byte_in front.now 0 0xC2 0xF4)) }
+{
+    !byte_in(front, 0, 0x00, 0x7F) && !byte_in(front, 0, 0xC2, 0xF4)
+}
+
 // Whether the bytes, of which so many are malformed alone, all begin one sequence.
+#[inline(always)]
 fn goes_on(front: &[u8], wrong: u8) -> bool
     ensures { result ≡ (wrong == length front.now && byte_in front.now 0 0xC2 0xF4) }
 {
     usize::from(wrong) == front.len() && byte_in(front, 0, 0xC2, 0xF4)
 }
 
-// The length of the well-formed sequence at the front, or 0.
-#[tactic(auto, using(crate::proofs::Utf8Rows::sequence_len_short))]
-fn sequence_len(front: &[u8]) -> u8
-    ensures { result ≡ sequence_len front.now }
-{
-    if byte_in(front, 0, 0x00, 0x7F) {
-        1
-    } else if begins_two(front, 0xC2, 0xDF) {
-        2
-    } else if begins_some_three(front) {
-        3
-    } else if begins_some_four(front) {
-        4
-    } else {
-        0
-    }
-}
-
 // How many bytes begin a sequence that isn't there as a whole, and at least one.
+#[inline(always)]
 #[tactic(auto, unfolding(crate::specs::Codes::Utf8::malformed_len))]
 fn malformed_len(front: &[u8]) -> u8
     ensures { result ≡ malformed_len front.now }
@@ -98,6 +116,7 @@ fn malformed_len(front: &[u8]) -> u8
 }
 
 // Whether the first two bytes of a sequence of three are at the front.
+#[inline(always)]
 fn two_of_three(front: &[u8]) -> bool
     ensures { result ≡ two_of_three front.now }
 {
@@ -108,6 +127,7 @@ fn two_of_three(front: &[u8]) -> bool
 }
 
 // Whether the first two bytes of a sequence of four are at the front.
+#[inline(always)]
 fn two_of_four(front: &[u8]) -> bool
     ensures { result ≡ two_of_four front.now }
 {
@@ -116,102 +136,99 @@ fn two_of_four(front: &[u8]) -> bool
         || begins_pair(front, 0xF4, 0xF4, 0x80, 0x8F)
 }
 
-// Whether a sequence of three bytes is at the front.
-fn begins_some_three(front: &[u8]) -> bool
-    ensures { result ≡ (begins_three front.now 0xE0 0xE0 0xA0 0xBF || begins_three front.now 0xE1
-        0xEC 0x80 0xBF
-        || begins_three front.now 0xED 0xED 0x80 0x9F || begins_three front.now 0xEE 0xEF 0x80 0xBF) }
-{
-    begins_three(front, 0xE0, 0xE0, 0xA0, 0xBF)
-        || begins_three(front, 0xE1, 0xEC, 0x80, 0xBF)
-        || begins_three(front, 0xED, 0xED, 0x80, 0x9F)
-        || begins_three(front, 0xEE, 0xEF, 0x80, 0xBF)
-}
-
-// Whether a sequence of four bytes is at the front.
-fn begins_some_four(front: &[u8]) -> bool
-    ensures { result ≡ (begins_four front.now 0xF0 0xF0 0x90 0xBF || begins_four front.now 0xF1 0xF3
-        0x80 0xBF
-        || begins_four front.now 0xF4 0xF4 0x80 0x8F) }
-{
-    begins_four(front, 0xF0, 0xF0, 0x90, 0xBF)
-        || begins_four(front, 0xF1, 0xF3, 0x80, 0xBF)
-        || begins_four(front, 0xF4, 0xF4, 0x80, 0x8F)
-}
-
 // Whether a first byte and a second one are at the front.
+#[inline(always)]
 fn begins_pair(front: &[u8], low: u8, high: u8, second_low: u8, second_high: u8) -> bool
     ensures { result ≡ begins_pair front.now low high second_low second_high }
 {
     byte_in(front, 0, low, high) && byte_in(front, 1, second_low, second_high)
 }
 
-// Whether a sequence of two bytes is at the front.
-fn begins_two(front: &[u8], low: u8, high: u8) -> bool
-    ensures { result ≡ begins_two front.now low high }
-{
-    byte_in(front, 0, low, high) && byte_in(front, 1, 0x80, 0xBF)
-}
-
-// Whether a sequence of a row of three bytes is at the front.
-fn begins_three(front: &[u8], low: u8, high: u8, second_low: u8, second_high: u8) -> bool
-    ensures { result ≡ begins_three front.now low high second_low second_high }
-{
-    byte_in(front, 0, low, high)
-        && byte_in(front, 1, second_low, second_high)
-        && byte_in(front, 2, 0x80, 0xBF)
-}
-
-// Whether a sequence of a row of four bytes is at the front.
-fn begins_four(front: &[u8], low: u8, high: u8, second_low: u8, second_high: u8) -> bool
-    ensures { result ≡ begins_four front.now low high second_low second_high }
-{
-    byte_in(front, 0, low, high)
-        && byte_in(front, 1, second_low, second_high)
-        && byte_in(front, 2, 0x80, 0xBF)
-        && byte_in(front, 3, 0x80, 0xBF)
-}
-
-// Whether a byte from `low` to `high` is at a place.
-fn byte_in(front: &[u8], place: usize, low: u8, high: u8) -> bool
-    ensures { result ≡ byte_in front.now place low high }
-{
-    place < front.len() && low <= front[place] && front[place] <= high
-}
-
-// The scalar of the well-formed sequence at the front.
-fn sequence_char(front: &[u8]) -> char
-    requires { 0 < sequence_len front.now }
+// The scalar of the well-formed sequence at the front, which has so many bytes.
+#[inline(always)]
+fn sequence_char(front: &[u8], length: usize) -> char
+    requires length { length ≡ sequence_len front.now }
+    requires some { 0 < length }
     ensures { result ≡ sequence_scalar front.now }
 {
-    char::from_u32(sequence_number(front)).unwrap()
+    char::from_u32(sequence_scalar(front, length)).unwrap()
 }
 
-// The low bits of the sequence's bytes, in a row.
-#[tactic(auto, unfolding(enc_handles::specs::Utf8::sequence_scalar))]
-fn sequence_number(front: &[u8]) -> u32
-    ensures { result ≡ sequence_scalar front.now }
-{
-    let first = number_at(front, 0);
-    let second = number_at(front, 1).saturating_sub(0x80);
-    let third = number_at(front, 2).saturating_sub(0x80);
-    let fourth = number_at(front, 3).saturating_sub(0x80);
-    match sequence_len(front) {
-        4 => first.saturating_sub(0xF0) * 0x4_0000 + second * 0x1000 + third * 0x40 + fourth,
-        3 => first.saturating_sub(0xE0) * 0x1000 + second * 0x40 + third,
-        2 => first.saturating_sub(0xC0) * 0x40 + second,
-        _ => first,
+impl EncodeCode for Utf8Code {
+    ghost use Rattle.enc_drivers.specs.Codes.Utf8.{utf8_bytes_of};
+    ghost use Rattle.enc_drivers.specs.Lemmas.EncoderLaws.{utf8_encoder};
+
+    ghost bytes = { λ code. utf8_bytes_of };
+
+    ghost max = { 4 };
+
+    #[inline(always)]
+    fn max(&self) -> usize {
+        4
     }
+
+    #[inline(always)]
+    #[tactic(auto, unfolding(crate::specs::Codes::Utf8::utf8_bytes_of))]
+    fn bytes_of(&self, scalar: char) -> Option<Encoded> {
+        Some(utf8_of(scalar))
+    }
+
+    ghost laws = { λ code. utf8_encoder };
 }
 
-// The byte at a place, or 0 past the end.
-fn number_at(front: &[u8], place: usize) -> u32
-    ensures value { result ≡ slice_index front.now place }
-    ensures bound { result < 256 }
+// The UTF-8 of a scalar.
+#[inline(always)]
+pub(crate) fn utf8_of(scalar: char) -> Encoded
+    ensures { result ≡ encode_utf8 scalar }
 {
-    if place < front.len() {
-        u32::from(front[place])
-    } else {
-        0
+    let code = u32::from(scalar);
+    if code < 0x80 {
+        return Encoded::one(code as u8);
     }
+    if code < 0x800 {
+        return two(code);
+    }
+    if code < 0x1_0000 {
+        return three(code);
+    }
+    four(code)
+}
+
+// The UTF-8 of a scalar from U+0080 to U+07FF.
+#[inline(always)]
+fn two(code: u32) -> Encoded
+    requires low { 0x80 ≤ code }
+    requires high { code < 0x800 }
+    ensures { result ≡ encode_utf8 code }
+{
+    Encoded::two((0xC0 + code / 0x40) as u8, (0x80 + code % 0x40) as u8)
+}
+
+// The UTF-8 of a scalar from U+0800 to U+FFFF.
+#[inline(always)]
+fn three(code: u32) -> Encoded
+    requires low { 0x800 ≤ code }
+    requires high { code < 0x1_0000 }
+    ensures { result ≡ encode_utf8 code }
+{
+    Encoded::three(
+        (0xE0 + code / 0x1000) as u8,
+        (0x80 + code / 0x40 % 0x40) as u8,
+        (0x80 + code % 0x40) as u8,
+    )
+}
+
+// The UTF-8 of a scalar above U+FFFF.
+#[inline(always)]
+fn four(code: u32) -> Encoded
+    requires low { 0x1_0000 ≤ code }
+    requires high { code < 0x11_0000 }
+    ensures { result ≡ encode_utf8 code }
+{
+    Encoded::four(
+        (0xF0 + code / 0x4_0000) as u8,
+        (0x80 + code / 0x1000 % 0x40) as u8,
+        (0x80 + code / 0x40 % 0x40) as u8,
+        (0x80 + code % 0x40) as u8,
+    )
 }

@@ -27,6 +27,9 @@ use enc_handles::unit_slice::UnitSlice;
 #[cfg(test)]
 mod tests;
 
+// How many bytes are read one scalar at a time before more are copied in one go.
+const FEW: usize = 4;
+
 /// A decoder of a code over a stream in pieces. It doesn't replace malformed units.
 #[derive(Drop)]
 pub struct GeneralDriver<C: Code> {
@@ -38,7 +41,8 @@ pub struct GeneralDriver<C: Code> {
 
 impl<C: Code> GeneralDriver<C> {
     ghost use Rattle.enc_drivers.specs.declared.unit.Mode.{Mode};
-    ghost use Rattle.enc_drivers.specs.Bulk.{KeepsAscii, BeginsWithEntry};
+    ghost use Rattle.enc_drivers.specs.Bulk.{KeepsAscii, ReadsAs, BeginsWithEntry};
+    ghost use Rattle.enc_drivers.specs.Codes.Utf8.{utf8_unit};
     ghost use Rattle.enc_drivers.specs.Driver.{standing, unit_of};
     ghost use Rattle.enc_drivers.specs.Turn.{StepsFront, Looks, Goes, Ends, EndsOrGoesOn, malformed_if_ends};
     ghost use Rattle.enc_drivers.specs.Decodes.{DecodesRaw};
@@ -250,10 +254,39 @@ impl<C: Code> GeneralDriver<C> {
         match self.code.bulk() {
             Bulk::None => 0,
             Bulk::Ascii => self.copy_text(src, dest),
-            Bulk::Utf8 => copy_utf8(src, dest),
+            Bulk::Utf8 => self.copy_sequences(src, dest),
             Bulk::Utf16Le => copy_utf16::<LittleEndian, S>(src, dest),
             Bulk::Utf16Be => copy_utf16::<BigEndian, S>(src, dest),
         }
+    }
+
+    // Where the units are those of UTF-8: moves whole sequences.
+    #[inline(always)]
+    fn copy_sequences<S: UnitSlice>(&self, src: &[u8], dest: &mut DestinationOver<S>) -> usize
+        requires { ReadsAs utf8_unit (unit_of self.now) }
+        ensures { (last : Bool) (mode : Mode) → Goes (unit_of self.now) S.encode last
+            (record { held = []; mode = mode }) (record { held = []; mode = mode })
+            src.now result (writing dest.old) (writing dest.new) [] }
+    {
+        let (few, goes_on) = self.copy_few(src, dest);
+        if !goes_on {
+            return few;
+        }
+        few + copy_utf8(&src[few..], dest)
+    }
+
+    // Moves a few scalars, and answers besides whether a copy of more may be worth it: text that is
+    // often malformed has one or two scalars in a row.
+    #[inline(always)]
+    fn copy_few<S: UnitSlice>(&self, src: &[u8], dest: &mut DestinationOver<S>) -> (usize, bool)
+        ensures within { result.0 ≤ length src.now }
+        ensures goes { (last : Bool) (mode : Mode)
+            → Goes (unit_of self.now) S.encode last (record { held = []; mode = mode })
+            (record { held = []; mode = mode })
+            src.now result.0 (writing dest.old) (writing dest.new) [] }
+    {
+        let (read, full) = self.copy_scalars(src, dest, FEW);
+        (read, full || read >= FEW || begins_run(&src[read..]))
     }
 
     // Where the code keeps ASCII: moves ASCII and what the code tells of other text, in turn.
@@ -264,7 +297,10 @@ impl<C: Code> GeneralDriver<C> {
             (record { held = []; mode = mode }) (record { held = []; mode = mode })
             src.now result (writing dest.old) (writing dest.new) [] }
     {
-        let mut read = 0;
+        let (mut read, goes_on) = self.copy_few(src, dest);
+        if !goes_on {
+            return read;
+        }
         while read < src.len() {
             let more = self.copy_part(&src[read..], dest);
             read += more;
@@ -288,7 +324,8 @@ impl<C: Code> GeneralDriver<C> {
         let ascii = self.copy_ascii_run(src, dest);
         let blocks = ascii + self.copy_blocks(&src[ascii..], dest);
         let entries = blocks + self.copy_entries(&src[blocks..], dest);
-        entries + self.copy_scalars(&src[entries..], dest)
+        let (scalars, _) = self.copy_scalars(&src[entries..], dest, src.len());
+        entries + scalars
     }
 
     // Moves ASCII.
@@ -308,8 +345,8 @@ impl<C: Code> GeneralDriver<C> {
     }
 
     // Moves eight bytes at a time, as far as the code tells their scalars and there is room, up to
-    // ASCII that is worth a copy of its own. It doesn't begin where the second byte isn't told, as
-    // in text that is malformed or has few bytes past ASCII.
+    // ASCII that is worth a copy of its own. It doesn't begin where the second byte is such ASCII,
+    // as in text that has few bytes past ASCII.
     #[inline(always)]
     fn copy_blocks<S: UnitSlice>(&self, src: &[u8], dest: &mut DestinationOver<S>) -> usize
         ensures within { result ≤ length src.now }
@@ -318,7 +355,7 @@ impl<C: Code> GeneralDriver<C> {
             (record { held = []; mode = mode })
             src.now result (writing dest.old) (writing dest.new) [] }
     {
-        if src.len() < 8 || src[1] < 0x80 || self.code.scalar(&src[1..]).is_none() {
+        if src.len() < 8 || begins_run(&src[1..]) {
             return 0;
         }
         let mut read = 0;
@@ -380,27 +417,33 @@ impl<C: Code> GeneralDriver<C> {
         (self.code.entry(first, bytes[1]), 2)
     }
 
-    // Moves one scalar at a time, as far as the code tells it and there is room, up to ASCII that
-    // is worth a copy of its own.
+    // Moves one scalar at a time, until so many bytes are read, as far as the code tells it and
+    // there is room, up to ASCII that is worth a copy of its own. Answers besides whether it ended
+    // for want of room.
     #[inline(always)]
-    fn copy_scalars<S: UnitSlice>(&self, src: &[u8], dest: &mut DestinationOver<S>) -> usize
-        ensures within { result ≤ length src.now }
+    fn copy_scalars<S: UnitSlice>(
+        &self,
+        src: &[u8],
+        dest: &mut DestinationOver<S>,
+        until: usize,
+    ) -> (usize, bool)
+        ensures within { result.0 ≤ length src.now }
         ensures goes { (last : Bool) (mode : Mode)
             → Goes (unit_of self.now) S.encode last (record { held = []; mode = mode })
             (record { held = []; mode = mode })
-            src.now result (writing dest.old) (writing dest.new) [] }
+            src.now result.0 (writing dest.old) (writing dest.new) [] }
     {
         let mut read = 0;
-        while read < src.len() && !begins_run(&src[read..]) {
+        while read < until && read < src.len() && !begins_run(&src[read..]) {
             let Some((scalar, length)) = self.code.scalar(&src[read..]) else {
-                return read;
+                return (read, false);
             };
             if !write_item(dest, Item::One(scalar)) {
-                return read;
+                return (read, true);
             }
             read += length;
         }
-        read
+        (read, false)
     }
 
     // Whether what follows may be worth a copy.

@@ -39,7 +39,8 @@ impl<C: Code> TwoByteDriver<C> {
         last: bool,
     ) -> (DecoderResult, usize, usize)
         ensures { DecodesRaw (two_byte_unit self.old) (two_byte_unit self.new) encode_utf8 4 last
-            (two_byte_standing self.old) (two_byte_standing self.new) src.now dst.old dst.new result }
+            (two_byte_standing self.old) (two_byte_standing self.new)
+            src.now dst.old dst.new result }
     {
         self.driver.decode_to_utf8_raw(src, dst, last)
     }
@@ -52,7 +53,8 @@ impl<C: Code> TwoByteDriver<C> {
         last: bool,
     ) -> (DecoderResult, usize, usize)
         ensures { DecodesRaw (two_byte_unit self.old) (two_byte_unit self.new) encode_utf16 2 last
-            (two_byte_standing self.old) (two_byte_standing self.new) src.now dst.old dst.new result }
+            (two_byte_standing self.old) (two_byte_standing self.new)
+            src.now dst.old dst.new result }
     {
         self.driver.decode_to_utf16_raw(src, dst, last)
     }

@@ -11,7 +11,7 @@ use crate::encode::EncodeCode;
 use crate::encoders::{
     ascii_compatible_bmp_encode_from_utf8_raw, ascii_compatible_bmp_encode_from_utf16_raw,
     ascii_compatible_encode_from_utf8_raw, ascii_compatible_encode_from_utf16_raw,
-    encode_from_utf8_raw, encode_from_utf16_raw,
+    encode_from_utf8_raw, encode_from_utf16_raw, utf8_encode_from_utf8_raw,
 };
 use crate::laws::{encoders_keep_ascii, encoders_without_astral};
 use crate::testing::OneRow;
@@ -43,6 +43,31 @@ fn copies_ascii_by_strides(rt: HostRuntime) {
     assert_eq!(rt; dst[5], b'x');
 }
 
+// A text, the room for it, how its copy ends, and behind how many bytes.
+type CopyRow = (&'static str, usize, EncoderResult, usize);
+
+#[test]
+fn copies_whole_characters_of_utf8(rt: HostRuntime) {
+    let rows: [CopyRow; 6] = [
+        ("a", 0, EncoderResult::OutputFull, 0),
+        ("a\u{e9}", 2, EncoderResult::OutputFull, 1),
+        ("a\u{20ac}", 3, EncoderResult::OutputFull, 1),
+        ("a\u{1f600}", 4, EncoderResult::OutputFull, 1),
+        ("a\u{1f600}", 5, EncoderResult::InputEmpty, 5),
+        ("", 0, EncoderResult::InputEmpty, 0),
+    ];
+    for (text, room, end, count) in rows {
+        let mut dst = [0; 8];
+        let answer = utf8_encode_from_utf8_raw(text, &mut dst[..room.min(8)], true);
+        assert_eq!(rt; answer, (end, count, count), "{text:?} into {room}");
+        assert_eq!(rt;
+            &dst[..answer.2],
+            &text.as_bytes()[..answer.1],
+            "{text:?} into {room}"
+        );
+    }
+}
+
 // The three calls from UTF-8.
 fn call_utf8<C: EncodeCode>(
     call: usize,
@@ -70,7 +95,8 @@ fn call_utf16<C: EncodeCode>(
 ) -> (EncoderResult, usize, usize)
     requires ascii { IsAsciiCompatible (C.bytes code.now) }
     requires bmp { MapsNoAstral (C.bytes code.now) }
-    ensures { EncodesRaw scalars16 is_seam16 (C.bytes code.now) C.max src.now dst.old dst.new result }
+    ensures { EncodesRaw scalars16 is_seam16 (C.bytes code.now) C.max
+        src.now dst.old dst.new result }
 {
     match call {
         0 => encode_from_utf16_raw(code, src, dst, false),

@@ -26,7 +26,8 @@ impl Lookup for Ideograph {
 struct Ends;
 
 impl Lookup for Ends {
-    ghost places = { λ index place. (if place == 189000 then Some 0x10000 else (if place == 1237575 then Some 0x10FFFF else None)) };
+    ghost places = { λ index place. (if place == 189000 then Some 0x10000
+        else (if place == 1237575 then Some 0x10FFFF else None)) };
 
     ghost scalars = { λ index place. Prim.search rules };
 

@@ -8,7 +8,7 @@ use crate::codes::utf8::Utf8Code;
 use crate::codes::utf16::Utf16Code;
 use crate::codes::windows_1252::Windows1252;
 use crate::drivers::general::GeneralDriver;
-use crate::testing::{Alphas, Nothing, check_by_units};
+use crate::testing::{Alphas, Nothing, Told, check_by_units};
 use enc_handles::endian::{BigEndian, LittleEndian};
 use enc_handles::results::DecoderResult;
 use std::process::Abort;
@@ -158,4 +158,16 @@ fn units_of_sixteen_bits_are_as_unit_by_unit(rt: HostRuntime) -> Result<(), Fail
         &Utf16Code::<BigEndian>::new(),
         big,
     )
+}
+
+// Entries that an index tells, eight bytes at a time and one scalar at a time, between others.
+#[test]
+fn copies_what_an_index_tells(rt: HostRuntime) -> Result<(), Fail> {
+    let told = Told::new();
+    let bytes = b"\x80\x80\x80\x80\x80 \x80\x80\x80\x80\x80\x80\x80A\x81\x80";
+    let single = SingleByte::new(&told);
+    check_by_units(&rt, rt.alloc(), SingleByte::new(&told), &single, bytes)?;
+    let pairs = b"\xb0\xa1\xb0\xa1\xb0\xa1 \xb0\xa1b\xb0\xa1\xff\xb0\xa1\xb0";
+    let korean = EucKr::new(&told);
+    check_by_units(&rt, rt.alloc(), EucKr::new(&told), &korean, pairs)
 }

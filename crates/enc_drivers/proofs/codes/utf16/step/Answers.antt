@@ -50,6 +50,6 @@ returns c =
     let second = c.code_unit-second.result in
     let lead : is_lead first ≡ true = sym c.is_lead.ensures ∙ c.if-not-is_lead.false in
     let trail : is_trail second ≡ true = sym c.is_trail.ensures ∙ c.if-not-is_trail.false in
-    let is : step.Unit (One c.pair_char.result) 4 a.mode ≡ step.Unit (One (pair_scalar first second)) 4 a.mode = ap (λ s. step.Unit (One s) 4 a.mode) c.pair_char.ensures in
-    decided_step (utf16_unit a.big) a.mode a.front.now a.last (step.Unit (One c.pair_char.result) 4 a.mode) (scalar_at a.mode (pair_scalar first second) 4) is
+    let is : step.Unit (One c.pair_scalar.result) 4 a.mode ≡ step.Unit (One (pair_scalar first second)) 4 a.mode = ap (λ s. step.Unit (One s) 4 a.mode) c.pair_scalar.ensures.value in
+    decided_step (utf16_unit a.big) a.mode a.front.now a.last (step.Unit (One c.pair_scalar.result) 4 a.mode) (scalar_at a.mode (pair_scalar first second) 4) is
     (λ more are. pair_front a.big a.mode a.front.now more first second (omega arith) c.code_unit-first.ensures c.code_unit-second.ensures lead trail)

@@ -1,4 +1,4 @@
-use Rattle.std.proofs.Common.{◌≡◌, get_or, sym, ap, ◌∙◌, arith}
+use Rattle.std.proofs.Common.{get_or, sym, ap, ◌∙◌, arith}
 use Rattle.enc_drivers.specs.Codes.Sequence.{sequence_unit}
 use Rattle.enc_drivers.specs.Units.{scalar_at}
 use Rattle.enc_drivers.proofs.EucJpSteps.{BeginsSequence, ascii_front, two_front}

@@ -1,4 +1,4 @@
-use Rattle.std.proofs.Common.{◌≡◌, ◌-◌, ◌≤◌, Bool, [], length}
+use Rattle.std.proofs.Common.{◌-◌, ◌≤◌, Bool, [], length}
 use Rattle.enc_handles.specs.Destination.{writing}
 use Rattle.enc_drivers.specs.declared.unit.Mode.{Mode}
 use Rattle.enc_drivers.specs.Driver.{unit_of}
