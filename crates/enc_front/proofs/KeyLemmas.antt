@@ -24,12 +24,12 @@ or_true true = refl
 or_true false = refl
 
 -- a key that is there stands somewhere, and one that stands somewhere is there
-record KeyAt (keys : List ℕ) (key : ℕ) : Type 0 where
-  at : ℕ
-  within : at < length keys
-  is : (d : ℕ) → slice_index_or keys at d ≡ key
+pub record KeyAt (keys : List ℕ) (key : ℕ) : Type 0 where
+  pub at : ℕ
+  pub within : at < length keys
+  pub is : (d : ℕ) → slice_index_or keys at d ≡ key
 
-key_at : (keys : List ℕ) (key : ℕ) → has_key keys key ≡ true → KeyAt keys key
+pub key_at : (keys : List ℕ) (key : ℕ) → has_key keys key ≡ true → KeyAt keys key
 key_at [] key h = cc
 key_at (k ∷ keys) key h = by_test (k == key) refl h (key_at keys key)
   where
@@ -39,7 +39,8 @@ key_at (k ∷ keys) key h = by_test (k == key) refl h (key_at keys key)
     by_test false e h rest = let r = rest h in
         record { at = suc r.at; within = omega (arith, r.within); is = r.is }
 
-has_at : (keys : List ℕ) (j d : ℕ) → j < length keys → has_key keys (slice_index_or keys j d) ≡ true
+pub has_at : (keys : List ℕ) (j d : ℕ) → j < length keys
+    → has_key keys (slice_index_or keys j d) ≡ true
 has_at [] j d h = absurd (omega arith)
 has_at (k ∷ keys) zero d h = let same : (k == k) ≡ true = grind (arith, nat_tests) in rw same refl
 has_at (k ∷ keys) (suc j) d h =

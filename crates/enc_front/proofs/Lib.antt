@@ -17,6 +17,7 @@ pub mod RowLemmas
 pub mod RunLemmas
 pub mod ReplaceLemmas
 pub mod StartLemmas
+pub mod StretchLemmas
 pub mod TextLemmas
 pub mod UnitLaws
 pub mod WholeLemmas

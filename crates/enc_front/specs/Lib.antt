@@ -21,6 +21,7 @@ pub mod Output
 pub mod Ranges
 pub mod Scalars
 pub mod Start
+pub mod Stretch
 pub mod Tables
 pub mod TypeLaws
 pub mod Units

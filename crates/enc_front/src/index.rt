@@ -10,8 +10,10 @@ ghost use Rattle.enc_front.specs.Keys.{FindsPlaces, has_key, key_of, pair_keys};
 ghost use Rattle.enc_front.specs.LeastRow.{IsLeastByRows, IsPlaceIn, under, with_7457};
 ghost use Rattle.enc_front.specs.Ranges.{is_outside, range_places};
 ghost use Rattle.enc_front.specs.Scalars.{is_scalar};
+ghost use Rattle.enc_front.specs.Stretch.{HasStretch};
 
 use crate::rows::{end_behind, is_scalar};
+use crate::stretch::Stretch;
 use enc_drivers::lookup::Lookup;
 use enc_handles::entry::entry_of;
 use std::alloc::{AllocError, Global};
@@ -110,20 +112,26 @@ fn cell_entry(cell: u32) -> u32
 }
 
 /// An index with a scalar or none at each of its places and its entry, a key for each scalar and
-/// its place, in the order of the scalars, and the entries of bytes by the first 128 places.
+/// its place, in the order of the scalars, the longest stretch of these, and the entries of bytes by
+/// the first 128 places.
 #[derive(Debug, Drop)]
 pub(crate) struct Index {
     cells: Cells,
     entries: Vec<u32>,
     keys: Vec<u64>,
+    stretch: Stretch,
     byte_entries: [u32; 256],
     ghost sorted: { IsNonDecreasing keys.items },
     ghost finds: { FindsPlaces keys.items (cell_places cells.cells.items) },
+    ghost stretched: { HasStretch keys.items stretch },
     ghost entered: { entries.items ≡ cell_entries cells.cells.items },
     ghost ready: { HasByteEntries cells.cells.items byte_entries },
 }
 
 impl Index {
+    ghost use Rattle.enc_drivers.specs.Lookup.{least_place};
+    ghost use Rattle.enc_front.specs.Index.{index_places};
+
     // The index of these cells, entries and keys.
     pub(crate) fn of(cells: Cells, entries: Vec<u32>, keys: Vec<u64>) -> Index
         requires entered { entries.items ≡ cell_entries cells.cells.items }
@@ -131,13 +139,26 @@ impl Index {
         requires finds { FindsPlaces keys.items (cell_places cells.cells.items) }
         ensures { cell_places result.cells.cells.items ≡ cell_places cells.cells.items }
     {
+        let stretch = Stretch::longest_of(keys.as_slice());
         let byte_entries = cells.byte_entries();
         Index {
             cells,
             entries,
             keys,
+            stretch,
             byte_entries,
         }
+    }
+
+    // The least place below one that holds a scalar, by the keys.
+    fn place_by_keys(&self, scalar: u32, below: u32) -> Option<u32>
+        ensures { result ≡ least_place (index_places self.now) scalar below }
+    {
+        let least = key_of(scalar, 0);
+        let keys = self.keys.as_slice();
+        let front = keys.partition_point(|key| *key < least);
+        let key = *keys.get(front)?;
+        place_below(key - least, below)
     }
 }
 
@@ -152,11 +173,11 @@ impl Lookup for Index {
     }
 
     fn place_of(&self, scalar: char, below: u32) -> Option<u32> {
-        let least = key_of(u32::from(scalar), 0);
-        let keys = self.keys.as_slice();
-        let front = keys.partition_point(|key| *key < least);
-        let key = *keys.get(front)?;
-        place_below(key - least, below)
+        let scalar = u32::from(scalar);
+        match self.stretch.place_of(scalar) {
+            Some(place) => place_below(place, below),
+            None => self.place_by_keys(scalar, below),
+        }
     }
 
     #[inline(always)]

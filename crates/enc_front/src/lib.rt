@@ -11,7 +11,10 @@ pub mod laws;
 mod mark;
 mod output;
 mod rows;
+mod stretch;
 mod tables;
+#[cfg(test)]
+mod testing;
 mod variant;
 mod whole;
 

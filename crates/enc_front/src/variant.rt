@@ -35,6 +35,7 @@ use enc_drivers::drivers::two_byte::TwoByteDriver;
 use enc_drivers::encoders::{
     ascii_compatible_bmp_encode_from_utf8_raw, ascii_compatible_bmp_encode_from_utf16_raw,
     ascii_compatible_encode_from_utf8_raw, ascii_compatible_encode_from_utf16_raw,
+    utf8_encode_from_utf8_raw,
 };
 use enc_handles::endian::{BigEndian, LittleEndian};
 use enc_handles::results::{DecoderResult, EncoderResult};
@@ -188,14 +189,15 @@ pub(crate) fn ranges_of(tables: &Tables) -> &Ranges
     }
 }
 
-// Calls an encoder with the code of an encoding: the first where a scalar above U+FFFF may have
-// bytes, else the second.
+// Calls an encoder with the code of an encoding: `$any` where a scalar above U+FFFF may have bytes,
+// else `$bmp`. `$utf8` is the call of UTF-8.
 macro_rules! with_code {
-    ($encoding:expr, $tables:expr, $any:ident, $bmp:ident, $src:expr, $dst:expr, $last:expr) => {
+    (
+        $encoding:expr, $tables:expr, $utf8:expr, $any:ident, $bmp:ident,
+        $src:expr, $dst:expr, $last:expr
+    ) => {
         match $encoding {
-            Encoding::Utf8 | Encoding::Utf16Be | Encoding::Utf16Le => {
-                $any(&Utf8Code::new(), $src, $dst, $last)
-            }
+            Encoding::Utf8 | Encoding::Utf16Be | Encoding::Utf16Le => $utf8,
             Encoding::Windows1252 => $bmp(&Windows1252::new(), $src, $dst, $last),
             Encoding::UserDefined => $bmp(&UserDefined::new(), $src, $dst, $last),
             Encoding::Single(name) => {
@@ -247,6 +249,7 @@ pub(crate) fn encode_from_utf8_raw(
     with_code!(
         encoding,
         tables,
+        utf8_encode_from_utf8_raw(src, dst, last),
         ascii_compatible_encode_from_utf8_raw,
         ascii_compatible_bmp_encode_from_utf8_raw,
         src,
@@ -272,6 +275,7 @@ pub(crate) fn encode_from_utf16_raw(
     with_code!(
         encoding,
         tables,
+        ascii_compatible_encode_from_utf16_raw(&Utf8Code::new(), src, dst, last),
         ascii_compatible_encode_from_utf16_raw,
         ascii_compatible_bmp_encode_from_utf16_raw,
         src,

@@ -1,6 +1,7 @@
 use super::*;
 use crate::encoding::SingleName;
 use crate::tables::IndexKind;
+use crate::testing::same;
 use Encoding::*;
 use Made::*;
 use std::alloc::Global;
@@ -193,7 +194,8 @@ const INDEXES: [(IndexKind, &[(u32, u32)]); 8] = [
 // Tables with these indexes.
 pub(crate) fn indexed(alloc: Global) -> Result<Tables, Fail> {
     let mut tables = Tables::new();
-    for (kind, pairs) in INDEXES {
+    for index in &INDEXES {
+        let (kind, pairs) = *index;
         tables.add(alloc, kind, pairs).map_err(|_| "no index")?;
     }
     Ok(tables)
@@ -224,13 +226,19 @@ fn check_cut(
     Ok(())
 }
 
-fn check_rows(rt: &impl Abort, alloc: Global, tables: &Tables, rows: &[Row]) -> Result<(), Fail> {
-    for (made, encoding, bytes, text, then) in rows {
-        for second in 0..=bytes.len() {
-            for first in 0..second {
-                let decoder = make(rt, *made, *encoding, tables);
-                check_cut(rt, alloc, decoder, bytes, (first, second), (text, *then))?;
-            }
+// Decodes the bytes of a row at any two cuts.
+fn check_cuts(
+    rt: &impl Abort,
+    alloc: Global,
+    tables: &Tables,
+    made: (Made, Encoding),
+    bytes: &[u8],
+    want: (&str, Encoding),
+) -> Result<(), Fail> {
+    for second in 0..=bytes.len() {
+        for first in 0..second {
+            let decoder = make(rt, made.0, made.1, tables);
+            check_cut(rt, alloc, decoder, bytes, (first, second), want)?;
         }
     }
     Ok(())
@@ -239,59 +247,132 @@ fn check_rows(rt: &impl Abort, alloc: Global, tables: &Tables, rows: &[Row]) -> 
 #[test]
 fn decodes_the_same_at_any_two_cuts(rt: HostRuntime) -> Result<(), Fail> {
     let tables = indexed(rt.alloc())?;
-    check_rows(&rt, rt.alloc(), &tables, &ROWS)
+    for row in &ROWS {
+        let (made, encoding, bytes, text, then) = *row;
+        check_cuts(
+            &rt,
+            rt.alloc(),
+            &tables,
+            (made, encoding),
+            bytes,
+            (text, then),
+        )?;
+    }
+    Ok(())
+}
+
+// A call without replacement, and what it answers.
+fn check_raw(
+    rt: &impl Abort,
+    decoder: &mut Decoder,
+    src: &[u8],
+    last: bool,
+    want: (DecoderResult, usize, usize),
+) {
+    assert!(rt; !decoder.is_finished());
+    assert!(rt; !decoder.owes());
+    let mut dst = [0; 4];
+    let answer = decoder.decode_to_utf8_without_replacement(src, &mut dst, last);
+    same(rt, &answer, &want, &src);
 }
 
 #[test]
 fn tells_malformed_units(rt: HostRuntime) {
+    use DecoderResult::*;
     let tables = Tables::new();
     let mut decoder = Decoder::new(Encoding::Utf16Le, &tables);
-    let mut dst = [0; 4];
-    let held = decoder.decode_to_utf8_without_replacement(b"\x00\xd8", &mut dst, false);
-    assert_eq!(rt; held, (DecoderResult::InputEmpty, 2, 0));
-    let wrong = decoder.decode_to_utf8_without_replacement(b"A\0", &mut dst, false);
-    assert_eq!(rt; wrong, (DecoderResult::Malformed(2, 2), 2, 0));
+    check_raw(&rt, &mut decoder, b"\x00\xd8", false, (InputEmpty, 2, 0));
+    check_raw(&rt, &mut decoder, b"A\0", false, (Malformed(2, 2), 2, 0));
     assert!(rt; !decoder.is_finished());
     assert!(rt; !decoder.owes());
     let mut units = [0; 2];
     let end = decoder.decode_to_utf16_without_replacement(b"", &mut units, true);
-    assert_eq!(rt; end, (DecoderResult::InputEmpty, 0, 1));
-    assert_eq!(rt; units[0], 0x41);
+    same(&rt, &end, &(InputEmpty, 0, 1), &"end");
+    same(&rt, &units[0], &0x41, &"end");
     assert!(rt; decoder.is_finished());
+}
+
+// A call to UTF-8, and what it answers.
+fn check_call(
+    rt: &impl Abort,
+    decoder: &mut Decoder,
+    src: &[u8],
+    dst: &mut [u8],
+    last: bool,
+    want: (CoderResult, usize, usize, bool),
+) {
+    assert!(rt; !decoder.is_finished());
+    let answer = decoder.decode_to_utf8(src, dst, last);
+    same(rt, &answer, &want, &src);
 }
 
 #[test]
 fn owes_what_has_no_room(rt: HostRuntime) {
+    use CoderResult::*;
     let tables = Tables::new();
     let mut decoder = Decoder::new_without_bom_handling(Encoding::Utf8, &tables);
     let mut four = [0; 4];
-    let held = decoder.decode_to_utf8(b"\xc3", &mut four, false);
-    assert_eq!(rt; held, (CoderResult::InputEmpty, 1, 0, false));
+    check_call(
+        &rt,
+        &mut decoder,
+        b"\xc3",
+        &mut four,
+        false,
+        (InputEmpty, 1, 0, false),
+    );
     let mut two = [0; 2];
-    let full = decoder.decode_to_utf8(b"", &mut two, true);
-    assert_eq!(rt; full, (CoderResult::OutputFull, 0, 0, false));
+    check_call(
+        &rt,
+        &mut decoder,
+        b"",
+        &mut two,
+        true,
+        (OutputFull, 0, 0, false),
+    );
     assert!(rt; decoder.owes());
-    assert!(rt; !decoder.is_finished());
     let mut three = [0; 3];
-    let end = decoder.decode_to_utf8(b"", &mut three, true);
-    assert_eq!(rt; end, (CoderResult::InputEmpty, 0, 3, true));
-    assert_eq!(rt; three, *b"\xef\xbf\xbd");
+    check_call(
+        &rt,
+        &mut decoder,
+        b"",
+        &mut three,
+        true,
+        (InputEmpty, 0, 3, true),
+    );
+    same(&rt, &three, b"\xef\xbf\xbd", &"three");
     assert!(rt; !decoder.owes());
     assert!(rt; decoder.is_finished());
 }
 
+// A last call to UTF-16, and what it answers.
+fn check_units_call(
+    rt: &impl Abort,
+    decoder: &mut Decoder,
+    src: &[u8],
+    dst: &mut [u16],
+    want: (CoderResult, usize, usize, bool),
+) {
+    assert!(rt; !decoder.is_finished());
+    let answer = decoder.decode_to_utf16(src, dst, true);
+    same(rt, &answer, &want, &src);
+}
+
 #[test]
 fn owes_what_has_no_room_in_utf_16(rt: HostRuntime) {
+    use CoderResult::*;
     let tables = Tables::new();
     let mut decoder = Decoder::new(Encoding::Utf8, &tables);
-    let mut none = [0; 0];
-    let full = decoder.decode_to_utf16(b"\xffa", &mut none, true);
-    assert_eq!(rt; full, (CoderResult::OutputFull, 1, 0, false));
+    check_units_call(
+        &rt,
+        &mut decoder,
+        b"\xffa",
+        &mut [],
+        (OutputFull, 1, 0, false),
+    );
     assert!(rt; decoder.owes());
     let mut one = [0; 1];
-    let more = decoder.decode_to_utf16(b"a", &mut one, true);
-    assert_eq!(rt; more, (CoderResult::OutputFull, 0, 1, true));
-    assert_eq!(rt; one, [0xFFFD]);
+    check_units_call(&rt, &mut decoder, b"a", &mut one, (OutputFull, 0, 1, true));
+    same(&rt, &one, &[0xFFFD], &"one");
     assert!(rt; !decoder.owes());
 }
 
@@ -315,26 +396,31 @@ fn check_units(
     assert_eq!(rt; &dst[..first + second], want, "{bytes:?} {cut}");
 }
 
+/// An encoding, bytes, and their text as code units.
+type UnitsRow = (Encoding, &'static [u8], &'static [u16]);
+
+const UNITS: [UnitsRow; 6] = [
+    (Utf16Le, b"\x00\xd8A\0", &[0xFFFD, 0x41]),
+    (Utf8, b"\xed\xa0\x80", &[0xFFFD, 0xFFFD, 0xFFFD]),
+    (Utf8, b"\xe2\x82A", &[0xFFFD, 0x41]),
+    (Utf8, b"\xf0\x90", &[0xFFFD]),
+    (
+        Utf8,
+        b"\xff\xfe\x3d\xd8\x00\xdea\0",
+        &[0xD83D, 0xDE00, 0x61],
+    ),
+    (
+        Windows1252,
+        b"\xef\xbb\xbf\xf0\x9f\x98\x80",
+        &[0xD83D, 0xDE00],
+    ),
+];
+
 #[test]
 fn writes_utf_16_at_every_cut(rt: HostRuntime) {
     let tables = Tables::new();
-    let rows: [(Encoding, &[u8], &[u16]); 6] = [
-        (Utf16Le, b"\x00\xd8A\0", &[0xFFFD, 0x41]),
-        (Utf8, b"\xed\xa0\x80", &[0xFFFD, 0xFFFD, 0xFFFD]),
-        (Utf8, b"\xe2\x82A", &[0xFFFD, 0x41]),
-        (Utf8, b"\xf0\x90", &[0xFFFD]),
-        (
-            Utf8,
-            b"\xff\xfe\x3d\xd8\x00\xdea\0",
-            &[0xD83D, 0xDE00, 0x61],
-        ),
-        (
-            Windows1252,
-            b"\xef\xbb\xbf\xf0\x9f\x98\x80",
-            &[0xD83D, 0xDE00],
-        ),
-    ];
-    for (encoding, bytes, want) in rows {
+    for row in &UNITS {
+        let (encoding, bytes, want) = *row;
         for cut in 0..=bytes.len() {
             check_units(&rt, &tables, encoding, bytes, cut, want);
         }

@@ -1,5 +1,6 @@
 use super::*;
 use crate::tables::IndexKind;
+use crate::testing::same;
 use EncoderResult::*;
 use std::alloc::Global;
 use std::process::Abort;
@@ -19,8 +20,8 @@ fn check(
     let mut dst = [0; 8];
     let mut encoder = Encoder::new(encoding, tables);
     let answer = encoder.encode_from_utf8_without_replacement(text, &mut dst, true);
-    assert_eq!(rt; answer, (end, text.len(), bytes.len()), "{text}");
-    assert_eq!(rt; &dst[..answer.2], bytes, "{text}");
+    same(rt, &answer, &(end, text.len(), bytes.len()), &text);
+    same(rt, &&dst[..answer.2], &bytes, &text);
 }
 
 /// An index of each kind that the rows need, by few pairs of a place and a scalar.
@@ -35,35 +36,41 @@ const INDEXES: [(IndexKind, &[(u32, u32)]); 5] = [
 // Tables with these indexes.
 fn indexed(alloc: Global) -> Result<Tables, Fail> {
     let mut tables = Tables::new();
-    for (kind, pairs) in INDEXES {
+    for index in &INDEXES {
+        let (kind, pairs) = *index;
         tables.add(alloc, kind, pairs).map_err(|_| "no index")?;
     }
     Ok(tables)
 }
 
+/// An encoding, text, its bytes, and how the call ends.
+type Row = (Encoding, &'static str, &'static [u8], EncoderResult);
+
+const ROWS: [Row; 12] = [
+    (Encoding::Utf8, "a\u{e9}", b"a\xc3\xa9", InputEmpty),
+    (
+        Encoding::Utf16Le,
+        "\u{1f600}",
+        b"\xf0\x9f\x98\x80",
+        InputEmpty,
+    ),
+    (Encoding::Windows1252, "a\u{20ac}", b"a\x80", InputEmpty),
+    (Encoding::Windows1252, "\u{416}", b"", Unmappable('\u{416}')),
+    (Encoding::UserDefined, "\u{f780}", b"\x80", InputEmpty),
+    (Encoding::Gbk, "\u{20ac}", b"\x80", InputEmpty),
+    (Encoding::Gbk, "\u{80}", b"", Unmappable('\u{80}')),
+    (Encoding::Gb18030, "\u{80}", b"\x81\x30\x81\x30", InputEmpty),
+    (Encoding::EucJp, "\u{a5}", b"\x5c", InputEmpty),
+    (Encoding::EucJp, "\u{ff61}", b"\x8e\xa1", InputEmpty),
+    (Encoding::EucJp, "\u{416}", b"\xa7\xa8", InputEmpty),
+    (Encoding::EucKr, "\u{416}", b"\xac\xa8", InputEmpty),
+];
+
 #[test]
 fn writes_bytes(rt: HostRuntime) -> Result<(), Fail> {
     let tables = indexed(rt.alloc())?;
-    let rows: [(Encoding, &str, &[u8], EncoderResult); 12] = [
-        (Encoding::Utf8, "a\u{e9}", b"a\xc3\xa9", InputEmpty),
-        (
-            Encoding::Utf16Le,
-            "\u{1f600}",
-            b"\xf0\x9f\x98\x80",
-            InputEmpty,
-        ),
-        (Encoding::Windows1252, "a\u{20ac}", b"a\x80", InputEmpty),
-        (Encoding::Windows1252, "\u{416}", b"", Unmappable('\u{416}')),
-        (Encoding::UserDefined, "\u{f780}", b"\x80", InputEmpty),
-        (Encoding::Gbk, "\u{20ac}", b"\x80", InputEmpty),
-        (Encoding::Gbk, "\u{80}", b"", Unmappable('\u{80}')),
-        (Encoding::Gb18030, "\u{80}", b"\x81\x30\x81\x30", InputEmpty),
-        (Encoding::EucJp, "\u{a5}", b"\x5c", InputEmpty),
-        (Encoding::EucJp, "\u{ff61}", b"\x8e\xa1", InputEmpty),
-        (Encoding::EucJp, "\u{416}", b"\xa7\xa8", InputEmpty),
-        (Encoding::EucKr, "\u{416}", b"\xac\xa8", InputEmpty),
-    ];
-    for (encoding, text, bytes, end) in rows {
+    for row in &ROWS {
+        let (encoding, text, bytes, end) = *row;
         check(&rt, &tables, encoding, text, bytes, end);
     }
     let mut euro = Tables::new();

@@ -1,6 +1,8 @@
 use super::*;
+use crate::testing::same;
 use IndexKind::*;
 use enc_drivers::lookup::Lookup;
+use std::alloc::Global;
 use std::process::Abort;
 use std::test::Fail;
 
@@ -55,18 +57,34 @@ const FAULTS: [Row; 27] = [
 ];
 
 // Each refused index leaves the tables as before: a good one of its kind is taken then.
+fn check_fault(
+    rt: &impl Abort,
+    alloc: Global,
+    kind: IndexKind,
+    pairs: &[(u32, u32)],
+    fault: TableError,
+) {
+    let mut tables = Tables::new();
+    same(rt, &tables.add(alloc, kind, pairs), &Err(fault), &pairs);
+    let good: &[(u32, u32)] = if kind == Gb18030Ranges {
+        &[(0, 0x80), (189_000, 0x1_0000)]
+    } else {
+        &[(0, 0x80)]
+    };
+    same(rt, &tables.add(alloc, kind, good), &Ok(()), &pairs);
+}
+
 #[test]
 fn names_the_first_fault(rt: HostRuntime) {
-    for (kind, pairs, row, why) in FAULTS {
-        let mut tables = Tables::new();
-        let fault = Err(TableError::BadTable { row, why });
-        assert_eq!(rt; tables.add(rt.alloc(), kind, pairs), fault, "{pairs:?}");
-        let good: &[(u32, u32)] = if kind == Gb18030Ranges {
-            &[(0, 0x80), (189_000, 0x1_0000)]
-        } else {
-            &[(0, 0x80)]
-        };
-        assert_eq!(rt; tables.add(rt.alloc(), kind, good), Ok(()), "{pairs:?}");
+    for fault in &FAULTS {
+        let (kind, pairs, row, why) = *fault;
+        check_fault(
+            &rt,
+            rt.alloc(),
+            kind,
+            pairs,
+            TableError::BadTable { row, why },
+        );
     }
 }
 
@@ -89,9 +107,30 @@ fn takes_each_kind_once(rt: HostRuntime) {
 // A scalar, a bound, and the least place below it that holds the scalar.
 type Place = (char, u32, Option<u32>);
 
+const FLAT: [Place; 4] = [
+    ('\u{416}', u32::MAX, Some(9)),
+    ('\u{416}', 9, None),
+    ('\u{20000}', 1, Some(0)),
+    ('A', u32::MAX, None),
+];
+
+const RANGES: [Place; 6] = [
+    ('\u{a4}', 1_237_576, None),
+    ('\u{a6}', 1_237_576, Some(37)),
+    ('\u{1da2}', 1_237_576, None),
+    ('\u{e7c7}', 7458, Some(7457)),
+    ('\u{e7c7}', 7457, None),
+    ('\u{10ffff}', u32::MAX, Some(1_237_575)),
+];
+
+fn check_place<L: Lookup>(rt: &impl Abort, index: &L, scalar: char, below: u32, want: Option<u32>) {
+    same(rt, &index.place_of(scalar, below), &want, &(scalar, below));
+}
+
 fn check_places<L: Lookup>(rt: &impl Abort, index: &L, rows: &[Place]) {
-    for (scalar, below, want) in rows {
-        assert_eq!(rt; index.place_of(*scalar, *below), *want, "{scalar} {below}");
+    for row in rows {
+        let (scalar, below, want) = *row;
+        check_place(rt, index, scalar, below, want);
     }
 }
 
@@ -101,27 +140,27 @@ fn finds_places(rt: HostRuntime) -> Result<(), Fail> {
     let pairs = [(11_142, 0x416), (9, 0x416), (0, 0x2_0000)];
     assert_eq!(rt; tables.add(rt.alloc(), IndexKind::Big5, &pairs), Ok(()));
     let index = tables.index(IndexKind::Big5).ok_or("no index")?;
-    let rows = [
-        ('\u{416}', u32::MAX, Some(9)),
-        ('\u{416}', 9, None),
-        ('\u{20000}', 1, Some(0)),
-        ('A', u32::MAX, None),
-    ];
-    check_places(&rt, index, &rows);
+    check_places(&rt, index, &FLAT);
     let pairs = [(0, 0x80), (36, 0xA5), (39_394, 0xA6), (189_000, 0x1_0000)];
     let added = tables.add(rt.alloc(), IndexKind::Gb18030Ranges, &pairs);
     assert_eq!(rt; added, Ok(()));
     let ranges = tables.ranges().ok_or("no ranges")?;
-    let rows = [
-        ('\u{a4}', 1_237_576, None),
-        ('\u{a6}', 1_237_576, Some(37)),
-        ('\u{1da2}', 1_237_576, None),
-        ('\u{e7c7}', 7458, Some(7457)),
-        ('\u{e7c7}', 7457, None),
-        ('\u{10ffff}', u32::MAX, Some(1_237_575)),
-    ];
-    check_places(&rt, ranges, &rows);
+    check_places(&rt, ranges, &RANGES);
     Ok(())
+}
+
+const SCALARS: [(u32, Option<char>); 7] = [
+    (36, Some('\u{a5}')),
+    (7457, Some('\u{e7c7}')),
+    (39_419, Some('\u{9a7c}')),
+    (39_420, None),
+    (188_999, None),
+    (1_237_575, Some('\u{10ffff}')),
+    (1_237_576, None),
+];
+
+fn check_scalar<L: Lookup>(rt: &impl Abort, index: &L, place: u32, want: Option<char>) {
+    same(rt, &index.at(place), &want, &place);
 }
 
 #[test]
@@ -131,41 +170,39 @@ fn looks_places_up(rt: HostRuntime) -> Result<(), Fail> {
     let added = tables.add(rt.alloc(), IndexKind::Gb18030Ranges, &pairs);
     assert_eq!(rt; added, Ok(()));
     let ranges = tables.ranges().ok_or("no ranges")?;
-    for (place, want) in [
-        (36, Some('\u{a5}')),
-        (7457, Some('\u{e7c7}')),
-        (39_419, Some('\u{9a7c}')),
-        (39_420, None),
-        (188_999, None),
-        (1_237_575, Some('\u{10ffff}')),
-        (1_237_576, None),
-    ] {
-        assert_eq!(rt; ranges.at(place), want, "{place}");
+    for row in &SCALARS {
+        let (place, want) = *row;
+        check_scalar(&rt, ranges, place, want);
     }
+    Ok(())
+}
+
+const TEXTS: [(Why, &str); 7] = [
+    (Why::Place, "row 3: the place is past the last one"),
+    (
+        Why::Order,
+        "row 3: the place doesn't follow the one before it",
+    ),
+    (Why::Twice, "row 3: a row before it has the place"),
+    (Why::Ascii, "row 3: the value is an ASCII character"),
+    (Why::NotScalar, "row 3: the value is no scalar value"),
+    (Why::NotBmp, "row 3: the value is above U+FFFF"),
+    (Why::Run, "row 3: a place of the run gets no scalar value"),
+];
+
+fn check_text(rt: &impl Abort, alloc: Global, error: &TableError, want: &str) -> Result<(), Fail> {
+    let text = format!(in alloc; "{error}")?;
+    same(rt, &text.as_str(), &want, &want);
     Ok(())
 }
 
 #[test]
 fn shows_faults(rt: HostRuntime) -> Result<(), Fail> {
-    let rows = [
-        (Why::Place, "row 3: the place is past the last one"),
-        (
-            Why::Order,
-            "row 3: the place doesn't follow the one before it",
-        ),
-        (Why::Twice, "row 3: a row before it has the place"),
-        (Why::Ascii, "row 3: the value is an ASCII character"),
-        (Why::NotScalar, "row 3: the value is no scalar value"),
-        (Why::NotBmp, "row 3: the value is above U+FFFF"),
-        (Why::Run, "row 3: a place of the run gets no scalar value"),
-    ];
-    for (why, want) in rows {
-        let text = format!(in rt.alloc(); "{}", TableError::BadTable { row: 3, why })?;
-        assert_eq!(rt; text.as_str(), want);
+    for row in &TEXTS {
+        let (why, want) = *row;
+        check_text(&rt, rt.alloc(), &TableError::BadTable { row: 3, why }, want)?;
     }
-    let memory = format!(in rt.alloc(); "{}", TableError::Memory)?;
-    assert_eq!(rt; memory.as_str(), "no memory");
-    let there = format!(in rt.alloc(); "{}", TableError::AlreadyThere(IndexKind::Big5))?;
-    assert_eq!(rt; there.as_str(), "there is an index of this kind");
-    Ok(())
+    check_text(&rt, rt.alloc(), &TableError::Memory, "no memory")?;
+    let there = TableError::AlreadyThere(IndexKind::Big5);
+    check_text(&rt, rt.alloc(), &there, "there is an index of this kind")
 }
