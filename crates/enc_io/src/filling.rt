@@ -6,6 +6,9 @@ ghost use Rattle.enc_io.specs.Faults.{Rose};
 
 use crate::outside::{Failed, Source};
 
+#[cfg(test)]
+mod tests;
+
 /// Reads until `buf` is full or the source ends, and answers how many bytes stand in `buf`.
 ///
 /// # Errors

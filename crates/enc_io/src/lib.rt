@@ -25,6 +25,4 @@ pub use stream::StreamSource;
 pub use tiny::TinyTranscoder;
 
 #[cfg(test)]
-mod peeker_tests;
-#[cfg(test)]
 mod tests;

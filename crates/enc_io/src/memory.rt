@@ -7,6 +7,9 @@ ghost use Rattle.enc_io.specs.Faults.{Rose, count_after, is_failing};
 use crate::outside::{Failed, Source};
 use std::marker::Model;
 
+#[cfg(test)]
+mod tests;
+
 /// A source that gives the bytes of a vector, at most `step` at a time, and fails at the calls
 /// whose numbers it was given. It numbers its own calls from 1; the number stays at `u64::MAX` once
 /// that is reached.

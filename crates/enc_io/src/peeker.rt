@@ -12,6 +12,9 @@ use crate::bom::PossibleBom;
 use crate::filling::{give, read_full};
 use crate::outside::{Failed, Source};
 
+#[cfg(test)]
+mod tests;
+
 /// A reader of the bytes of a source, whose first three bytes can be looked at before they are
 /// read.
 #[derive(Drop)]

@@ -8,6 +8,9 @@ use crate::outside::{Failed, Source};
 use std::io::Read;
 use std::marker::Model;
 
+#[cfg(test)]
+mod tests;
+
 /// A source over a reader, as of a file or standard input. It tells nothing, and keeps counts of
 /// its failures and of its calls, which stand still at `u64::MAX`.
 #[derive(Drop)]

@@ -11,6 +11,9 @@ use enc_front::Decoder;
 use enc_handles::results::CoderResult;
 use std::alloc::AllocError;
 
+#[cfg(test)]
+mod tests;
+
 /// Text that was decoded into seven bytes, and is given in any pieces.
 #[derive(Debug, Drop)]
 pub struct TinyTranscoder {

@@ -1,7 +1,7 @@
-//! Readers of a stream that look at its first bytes, and transcoders of few bytes.
-use crate::*;
-use enc_front::{Decoder, Encoding, Tables};
-use enc_handles::results::CoderResult;
+//! The first bytes of a stream, looked at and read.
+use super::*;
+use crate::memory::MemorySource;
+use enc_front::Encoding;
 use std::alloc::Global;
 use std::process::Abort;
 use std::test::Fail;
@@ -108,29 +108,5 @@ fn calls_no_source_behind_its_end(rt: HostRuntime) -> Result<(), Fail> {
     assert_eq!(rt; peeker.read(&mut buf), Ok(2));
     assert_eq!(rt; peeker.read(&mut buf), Ok(0));
     assert_eq!(rt; peeker.read(&mut buf), Ok(0));
-    Ok(())
-}
-
-#[test]
-fn transcodes_few_bytes(rt: HostRuntime) -> Result<(), Fail> {
-    let tables = Tables::new();
-    let mut decoder = Decoder::new(Encoding::Utf16Le, &tables);
-    let mut tiny = TinyTranscoder::new();
-    let held = tiny.transcode(&mut decoder, b"\0", false);
-    assert_eq!(rt; held, (CoderResult::InputEmpty, 1, 0));
-    assert!(rt; !decoder.is_finished());
-    let end = tiny.transcode(&mut decoder, b"", true);
-    assert_eq!(rt; end, (CoderResult::InputEmpty, 0, 3));
-    assert!(rt; decoder.is_finished());
-    let mut copy = tiny.clone()?;
-    let mut buf = [0; 2];
-    assert_eq!(rt; tiny.read(&mut buf), 2);
-    assert_eq!(rt; buf, *b"\xef\xbf");
-    assert_eq!(rt; tiny.read(&mut buf), 1);
-    assert_eq!(rt; buf[0], 0xBD);
-    assert_eq!(rt; tiny.read(&mut buf), 0);
-    let mut whole = [0; 8];
-    assert_eq!(rt; copy.read(&mut whole), 3);
-    assert_eq!(rt; &whole[..3], b"\xef\xbf\xbd".as_slice());
     Ok(())
 }
