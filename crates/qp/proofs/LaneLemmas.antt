@@ -21,40 +21,40 @@ pub joined : (h : ℕ → ℕ → ℕ) (f g : ℕ → ℕ) (v : List ℕ) {a b :
 joined h f g v p q = ap₂ (zip2 h) p q ∙ zip2-map h f g v
 
 -- the lanes before the first that stops pass the test q
-module _ (q : ℕ → Bool) (f : ℕ → ℕ) (text : List ℕ) (at r : ℕ) (z : List ℕ) (room : at + 16 ≤ length text) (fits : (k : ℕ) → Fits w8 (get_or text k 0))
-    (lanes : z ≡ map f (chunk at 16 text))
-    (found : r ≡ cond (eqb (mask_l (map (top 7) z) % 2 ^ 64) 0) 16 (count_trailing_zeros 64 (mask_l (map (top 7) z) % 2 ^ 64))) where
+module _ (q : ℕ → Bool) (f : ℕ → ℕ) (n : ℕ) (narrow : n ≤ 64) (text : List ℕ) (at r : ℕ) (z : List ℕ) (room : at + n ≤ length text) (fits : (k : ℕ) → Fits w8 (get_or text k 0))
+    (lanes : z ≡ map f (chunk at n text))
+    (found : r ≡ cond (eqb (mask_l (map (top 7) z) % 2 ^ 64) 0) n (count_trailing_zeros 64 (mask_l (map (top 7) z) % 2 ^ 64))) where
   abbrev stops : ℕ → Bool
   stops x = top 7 (f x)
 
   abbrev v : List ℕ
-  v = chunk at 16 text
+  v = chunk at n text
 
-  long : length v ≡ 16
-  long = length-chunk at 16 text room
+  long : length v ≡ n
+  long = length-chunk at n text room
 
   counted : r ≡ prefix_len (λ x. not (stops x)) v
   counted =
-      let mask = ap (λ l. mask_l l % 2 ^ 64) (ap (map (top 7)) lanes ∙ map-map (top 7) f v) ∙ mask_l-mod (map stops v) 64 (omega (arith, length-map v stops, long)) in
-      found ∙ ap (λ m. cond (eqb m 0) 16 (count_trailing_zeros 64 m)) mask ∙ first_set_mask_l stops v 16 long (omega arith)
+      let mask = ap (λ l. mask_l l % 2 ^ 64) (ap (map (top 7)) lanes ∙ map-map (top 7) f v) ∙ mask_l-mod (map stops v) 64 (omega (arith, length-map v stops, long, narrow)) in
+      found ∙ ap (λ m. cond (eqb m 0) n (count_trailing_zeros 64 m)) mask ∙ first_set_mask_l stops v n long narrow
 
-  pub lanes_few : r ≤ 16
+  pub lanes_few : r ≤ n
   lanes_few = omega (arith, counted, long, prefix_len-le-length (λ x. not (stops x)) v)
 
   passes : agree_below (λ x. stops x || q x) (λ _. true) 256 ≡ true → (k : ℕ) → k < r → q (get_or text (at + k) 0) ≡ true
   passes all k below =
-      let same = get_or-chunk at 16 text k 0 (omega (arith, lanes_few)) in
+      let same = get_or-chunk at n text k 0 (omega (arith, lanes_few)) in
       let goes = prefix_len_passes (λ x. not (stops x)) v k 0 (omega (arith, counted)) in
       let on : stops (get_or text (at + k) 0) ≡ false = not-true _ (ap (λ x. not (stops x)) (sym same) ∙ goes) in
       sym (ap (λ b. b || q (get_or text (at + k) 0)) on) ∙ agree_below_at (λ x. stops x || q x) (λ _. true) 256 (get_or text (at + k) 0) all (fits (at + k)).fits
 
   pub lanes_pass : agree_below (λ x. stops x || q x) (λ _. true) 256 ≡ true → list_all q (take r (drop at text)) ≡ true
   lanes_pass all =
-      let front = take-take r 16 (drop at text) lanes_few in
+      let front = take-take r n (drop at text) lanes_few in
       let few : length (take r v) ≡ r = length-take-le r v (omega (arith, long, lanes_few)) in
       ap (list_all q) (sym front) ∙ list_all-from_AllPass q (take r v) (All-from_get_or (λ x. q x ≡ true) (take r v) 0 (λ k inside.
       let below : k < r = omega (arith, few) in
-      ap q (get_or-take r v k 0 below ∙ get_or-chunk at 16 text k 0 (omega (arith, lanes_few))) ∙ passes all k below))
+      ap q (get_or-take r v k 0 below ∙ get_or-chunk at n text k 0 (omega (arith, lanes_few))) ∙ passes all k below))
 
 -- a shorter front
 pub fewer_pass : (q : ℕ → Bool) (m n : ℕ) (text : List ℕ) → m ≤ n → list_all q (take n text) ≡ true → list_all q (take m text) ≡ true
@@ -94,10 +94,10 @@ three_stored old new entry at wide end n room few is same e h =
     ∙ take-append-add (take at old) (take 3 entry) n
     ∙ ap (λ ys. take at old ++ ys) (take-take n 3 entry (omega arith) ∙ ap (λ k. take k entry) is)
 
-pub stored_run : (room text : List ℕ) (at run : ℕ) → at + 16 ≤ length room → 16 ≤ length text → run ≤ 16 → take (at + run) (put_chunk at room (take 16 text)) ≡ take at room ++ take run text
-stored_run room text at run wide long few =
-    let whole : length (take 16 text) ≡ 16 = length-take-le 16 text long in
-    stored room (take 16 text) at run (omega (arith, whole)) (omega (arith, whole)) ∙ ap (λ ys. take at room ++ ys) (take-take run 16 text few)
+pub stored_run : (n : ℕ) (room text : List ℕ) (at run : ℕ) → at + n ≤ length room → n ≤ length text → run ≤ n → take (at + run) (put_chunk at room (take n text)) ≡ take at room ++ take run text
+stored_run n room text at run wide long few =
+    let whole : length (take n text) ≡ n = length-take-le n text long in
+    stored room (take n text) at run (omega (arith, whole)) (omega (arith, whole)) ∙ ap (λ ys. take at room ++ ys) (take-take run n text few)
 
 pub first_of : (text : List ℕ) → ¬ (length text ≡ 0) → take 1 text ≡ get_or text 0 0 ∷ []
 first_of [] some = absurd (some refl)

@@ -1,3 +1,4 @@
+pub mod BlockLemmas
 pub mod DigitLemmas
 pub mod Feeds
 pub mod Front
@@ -9,5 +10,6 @@ pub mod LawLemmas
 pub mod Readback
 pub mod Reading
 pub mod Scanning
+pub mod SpreadLemmas
 pub mod StrictLemmas
 pub mod Stripped

@@ -9,17 +9,16 @@ ghost use Rattle.qp.specs.Items.{plain, items, octet_item, is_blank, ends_blank,
 ghost use Rattle.qp.specs.Layout.{laid_out, laid_out_from, breaks_before, soft_break, goes_on};
 
 use super::InputMode;
+use crate::blocks::put_block;
 use crate::lanes::{LANES, first_plain, put};
+use crate::spread::DIGITS;
 use std::alloc::{AllocError, Global};
 use std::simd::prelude::*;
-
-// The upper-case hexadecimal digits.
-const DIGITS: [u8; 16] = *b"0123456789ABCDEF";
 
 // How many bytes are gathered before they are appended.
 pub const ROOM: usize = 4096;
 
-// More than the bytes of a run, a soft line break and an item.
+// More than the bytes of a run, a soft line break and an item; twice as many are room for a block.
 const TURN: usize = 32;
 
 // `input` in lines of at most `limit` bytes.
@@ -105,8 +104,8 @@ fn fill<'a>(
     let mut at = 0;
     let mut now = used;
     let mut rest = input;
-    while rest.len() >= TURN && room.len() - at >= 2 * TURN {
-        let (end, column, after) = put_front(room, at, rest, limit, now, text);
+    while rest.len() >= TURN && room.len() - at >= 3 * TURN {
+        let (end, column, after) = put_block(room, at, rest, limit, now, text);
         at = end;
         now = column;
         rest = after;
@@ -155,7 +154,7 @@ fn put_rest<'a>(
 // Writes a run of bytes that stand for themselves, and the item behind it, to `room` at `at`, and
 // gives the place behind these, how many bytes their line has then, and what is left.
 #[inline(always)]
-fn put_front<'a>(
+pub fn put_front<'a>(
     room: &mut [u8],
     at: usize,
     input: &'a [u8],

@@ -1,4 +1,4 @@
-//! Runs of printable bytes, looked at and copied sixteen at a time.
+//! Runs of printable bytes, looked at and copied sixteen or more at a time.
 
 ghost use Rattle.std.specs.Prelude.{◌≡◌, ◌+◌, ◌≤◌, ◌==◌, ◌&&◌, ◌||◌, true, not, length, take, drop, ◌++◌, if◌then◌else◌};
 ghost use Rattle.std.specs.Int.{w64, trailing_zeros};
@@ -11,13 +11,16 @@ use std::simd::prelude::*;
 // How many bytes are looked at at once.
 pub const LANES: usize = 16;
 
-// The place of the lowest bit that is set, or 16.
+// How many bytes a decoder looks at at once.
+pub const WIDE: usize = 32;
+
+// The place of the lowest bit that is set, or `lanes`.
 #[inline(always)]
-fn first_set(mask: u64) -> usize
-    ensures { result ≡ (if mask == 0 then 16 else trailing_zeros w64 mask) }
+pub fn first_set(mask: u64, lanes: usize) -> usize
+    ensures { result ≡ (if mask == 0 then lanes else trailing_zeros w64 mask) }
 {
     if mask == 0 {
-        LANES
+        lanes
     } else {
         mask.trailing_zeros() as usize
     }
@@ -33,7 +36,20 @@ pub fn plain_lanes(text: &[u8], at: usize) -> usize
     let v = u8x16::from_slice(&text[at..]);
     let low = v.simd_lt(u8x16::splat(b' ')) | v.simd_eq(u8x16::splat(b'='));
     let stops = low | v.simd_ge(u8x16::splat(0x7F));
-    first_set(stops.to_bitmask())
+    first_set(stops.to_bitmask(), LANES)
+}
+
+// How many of the first thirty-two bytes are 20 to 7E but `=`, up to the first that isn't.
+#[inline(always)]
+pub fn wide_plain_lanes(text: &[u8]) -> usize
+    requires { 32 ≤ length text.now }
+    ensures few { result ≤ 32 }
+    ensures run { list_all may_stand_within (take result text.now) ≡ true }
+{
+    let v = u8x32::from_slice(text);
+    let low = v.simd_lt(u8x32::splat(b' ')) | v.simd_eq(u8x32::splat(b'='));
+    let stops = low | v.simd_ge(u8x32::splat(0x7F));
+    first_set(stops.to_bitmask(), WIDE)
 }
 
 // How many of the sixteen bytes at `at` are 20 to 7E, up to the first that isn't.
@@ -46,7 +62,7 @@ pub fn printable_lanes(text: &[u8], at: usize) -> usize
 {
     let v = u8x16::from_slice(&text[at..]);
     let stops = v.simd_lt(u8x16::splat(b' ')) | v.simd_ge(u8x16::splat(0x7F));
-    first_set(stops.to_bitmask())
+    first_set(stops.to_bitmask(), LANES)
 }
 
 // How many bytes at the front of `text`, sixteen at most and up to `most`, stand for themselves

@@ -12,10 +12,12 @@ ghost use Rattle.qp.specs.declared.QuotedPrintableError.{QuotedPrintableError};
 use std::alloc::{AllocError, Global};
 use std::fmt;
 
+mod blocks;
 mod encoder;
 mod lanes;
 pub mod laws;
 mod robust;
+mod spread;
 mod strict;
 
 /// How strictly a decoder reads its input.

@@ -10,7 +10,7 @@ ghost use Rattle.qp.specs.Robust.{robust, line_end};
 ghost use Rattle.qp.specs.Digits.{digit_or_none, begins_soft_break};
 
 use crate::encoder::{ROOM, begins_break, ends_blank, may_stand_within};
-use crate::lanes::{LANES, plain_lanes, put};
+use crate::lanes::{LANES, plain_lanes, put, wide_plain_lanes};
 use memchr::memchr;
 use std::alloc::{AllocError, Global};
 use std::simd::prelude::*;
@@ -35,7 +35,7 @@ const DIGITS: [u8; 256] = *b"\
     \xff\xff\xff\xff\xff\xff\xff\xff\xff\xff\xff\xff\xff\xff\xff\xff";
 
 // As many bytes as a turn of `fill_text` may write, and as it looks at.
-const TURN: usize = 19;
+const TURN: usize = 35;
 
 // The bytes that `input` stands for, line by line.
 pub fn decode(alloc: Global, input: &[u8]) -> Result<Vec<u8>, AllocError>
@@ -103,16 +103,16 @@ fn fill_text<'a>(room: &mut [u8], text: &'a [u8]) -> (usize, &'a [u8])
 // neither stands there, or where blanks may stand at the end of a line.
 #[inline(always)]
 fn put_text<'a>(room: &mut [u8], at: usize, text: &'a [u8]) -> (usize, &'a [u8])
-    requires room { at + 19 ≤ length room.old }
-    requires text { 19 ≤ length text.now }
+    requires room { at + 35 ≤ length room.old }
+    requires text { 35 ≤ length text.now }
     ensures value { take result.0 room.new ++ robust result.1.now
         ≡ take at room.old ++ robust text.now }
-    ensures end { result.0 ≤ at + 19 }
+    ensures end { result.0 ≤ at + 35 }
     ensures len { length room.new ≡ length room.old }
     ensures shorter { length result.1.now ≤ length text.now }
 {
-    let run = plain_lanes(text, 0);
-    u8x16::from_slice(text).copy_to_slice(&mut room[at..]);
+    let run = wide_plain_lanes(text);
+    u8x32::from_slice(text).copy_to_slice(&mut room[at..]);
     let rest = &text[run..];
     if let Some(octet) = escaped_octet(rest) {
         let end = put(room, at + run, &[octet]);
@@ -199,11 +199,9 @@ fn push_line(decoded: &mut Vec<u8>, room: &mut [u8], line: &[u8]) -> Result<bool
 fn push_escape(decoded: &mut Vec<u8>, high: u8, low: u8) -> Result<(), AllocError>
     ensures { IfOk result (λ _. decoded.new.items ≡ decoded.old.items ++ escape_value high low) }
 {
-    match (char::from(high).to_digit(16), char::from(low).to_digit(16)) {
-        (Some(high_digit), Some(low_digit)) => {
-            decoded.push((high_digit * 16 + low_digit) as u8)?;
-        }
-        _ => {
+    match two_digits(high, low) {
+        Some(octet) => decoded.push(octet)?,
+        None => {
             decoded.push(b'=')?;
             decoded.push(high)?;
             decoded.push(low)?;
@@ -342,10 +340,14 @@ fn two_digits(high: u8, low: u8) -> Option<u8>
     ensures value { IfSome result (λ octet. escape_value high low ≡ octet ∷ []) }
     ensures high { IfSome result (λ _. is_digit high 16 ≡ true) }
     ensures low { IfSome result (λ _. is_digit low 16 ≡ true) }
+    ensures none { IfNone result (escape_value high low ≡ 61 ∷ high ∷ low ∷ []) }
 {
     let tens = digit(high);
+    if tens >= 16 {
+        return None;
+    }
     let ones = digit(low);
-    if tens >= 16 || ones >= 16 {
+    if ones >= 16 {
         return None;
     }
     Some(tens * 16 + ones)

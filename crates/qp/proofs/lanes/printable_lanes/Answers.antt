@@ -1,4 +1,4 @@
-use Rattle.std.proofs.Common.{ℕ, Bool, eqb, leb, cond, not, ◌&&◌, ◌||◌, refl}
+use Rattle.std.proofs.Common.{ℕ, Bool, eqb, leb, cond, not, ◌&&◌, ◌||◌, refl, arith}
 use Rattle.std.proofs.lemmas.Simd.{length-chunk, zip2_splat, zip2_splat_left}
 use lib.Lanes.{chunk}
 use Rattle.qp.specs.Text.{is_text_octet}
@@ -9,7 +9,7 @@ pub returns-clause-few : goal.returns-clause-few
 returns-clause-few c =
     let v = chunk c.args.at 16 c.args.text.now in
     let long = length-chunk c.args.at 16 c.args.text.now c.requires in
-    lanes_few is_text_octet _ c.args.text.now c.args.at _ _ c.requires c.type_inv.text
+    lanes_few is_text_octet _ 16 (omega arith) c.args.text.now c.args.at _ _ c.requires c.type_inv.text
     (joined _ _ _ v (zip2_splat _ v 16 32 long) (zip2_splat_left (λ a b. cond (leb a b) 255 0) 127 16 v long))
     c.first_set.ensures
 
@@ -18,6 +18,6 @@ returns-clause-run c =
     let v = chunk c.args.at 16 c.args.text.now in
     let long = length-chunk c.args.at 16 c.args.text.now c.requires in
     let stands : ℕ → Bool = λ b. is_text_octet b && not (eqb b 13 || eqb b 10) in
-    lanes_pass stands _ c.args.text.now c.args.at _ _ c.requires c.type_inv.text
+    lanes_pass stands _ 16 (omega arith) c.args.text.now c.args.at _ _ c.requires c.type_inv.text
     (joined _ _ _ v (zip2_splat _ v 16 32 long) (zip2_splat_left (λ a b. cond (leb a b) 255 0) 127 16 v long))
     c.first_set.ensures refl
