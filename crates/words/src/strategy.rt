@@ -1,3 +1,5 @@
+//! What becomes of encoded words that are too long (RFC 2047, section 2).
+
 /// What to do with an encoded word that is too long: one whose spelling has
 /// more than 75 bytes (RFC 2047, section 2).
 #[derive(Clone, Copy, Debug, PartialEq, Eq, Hash)]
