@@ -5,14 +5,7 @@ use Rattle.std.proofs.KnownBytes.{Consumes-trans}
 use Rattle.enc_io.specs.Faults.{Rose}
 use Rattle.unwrap.specs.declared.status.ReadError.{ReadError}
 use Rattle.unwrap.specs.declared.status.ReadError.TheVariants.{ReadFault, TooMuch, Memory}
-use Rattle.unwrap.specs.Moves.{AppendsRead, IsReadError}
-
--- bytes that were had, and what was appended to them
-pub read_more : (a b c : Option (List ℕ)) (bytes bytes' : List ℕ) (n : ℕ) → Consumes a b bytes → AppendsRead b c bytes bytes' n → Consumes a c bytes'
-read_more a b c bytes bytes' n had more = subst (Consumes a c) (sym more.2) (Consumes-trans a b c bytes more.0 had more.1)
-
-pub read_more_length : (b c : Option (List ℕ)) (bytes bytes' : List ℕ) (n : ℕ) → AppendsRead b c bytes bytes' n → length bytes' ≡ length bytes + n
-read_more_length b c bytes bytes' n more = ap length more.2 ∙ length-append bytes more.0 ∙ ap (λ k. length bytes + k) more.3
+use Rattle.unwrap.specs.Moves.{IsReadError}
 
 lost_more : (a b c : Option (List ℕ)) (bytes given : List ℕ) → Consumes a b bytes → Consumes b c given → Consumes a c (bytes ++ given)
 lost_more a b c bytes given had more = Consumes-trans a b c bytes given had more

@@ -1,19 +1,13 @@
 -- How commands end that neither read nor write.
-use Rattle.std.proofs.Common.{◌≡◌, ◌≢◌, ◌⊎◌, ◌≤◌, ℕ, Bool, true, false, List, [], length, Option, Some, None, IfSome, IsOk, refl, sym, subst, inr, arith}
+use Rattle.std.proofs.Common.{◌≡◌, ◌≢◌, ◌⊎◌, ◌≤◌, ℕ, List, [], length, Option, Some, None, IfSome, IsOk, refl, inr, arith}
 use Rattle.std.proofs.KnownBytes.{Consumes-nil}
 use Rattle.words.specs.declared.strategy.RecoverStrategy.{RecoverStrategy}
 use Rattle.unwrap.specs.declared.status.Status.TheVariants.{Done, ReadFault, WriteFault, Memory}
-use Rattle.unwrap.specs.Asked.{Asked, Quoted, Stream, Unwrap, StreamText, QpEncode, QpDecode, Make}
-use Rattle.unwrap.specs.Commands.{OnMake, OnQuoted, OnText, OnUnwrap}
+use Rattle.unwrap.specs.Asked.{Asked, Stream, Unwrap, StreamText, QpEncode, QpDecode, Make}
+use Rattle.unwrap.specs.Commands.{OnText, OnUnwrap}
 use Rattle.unwrap.specs.Delivers.{Answer, Delivers, TellsFaultOf}
 
--- what was asked for
-pub on_unwrap : (o p : Option Asked) (P : Stream → RecoverStrategy → Type 0) → o ≡ p → OnUnwrap p P → OnUnwrap o P
-on_unwrap o p P same h = subst (λ (x : Option Asked). OnUnwrap x P) (sym same) h
-
-pub on_make : (o p : Option Asked) (P : ℕ → Type 0) → o ≡ p → OnMake p P → OnMake o P
-on_make o p P same h = subst (λ (x : Option Asked). OnMake x P) (sym same) h
-
+-- whatever was asked for
 pub every_unwrap : (o : Option Asked) (P : Stream → RecoverStrategy → Type 0) → ((stream : Stream) (strategy : RecoverStrategy) → P stream strategy) → OnUnwrap o P
 every_unwrap None P h = tt
 every_unwrap (Some (Unwrap stream strategy)) P h = h stream strategy
@@ -22,12 +16,6 @@ every_unwrap (Some (QpEncode options)) P h = tt
 every_unwrap (Some (QpDecode options)) P h = tt
 every_unwrap (Some (Make parts)) P h = tt
 
-pub on_quoted : (o p : Option Asked) (P : Bool → Quoted → Type 0) → o ≡ p → OnQuoted p P → OnQuoted o P
-on_quoted o p P same h = subst (λ (x : Option Asked). OnQuoted x P) (sym same) h
-
-pub on_text : (o p : Option Asked) (P : Stream → Type 0) → o ≡ p → OnText p P → OnText o P
-on_text o p P same h = subst (λ (x : Option Asked). OnText x P) (sym same) h
-
 pub every_text : (o : Option Asked) (P : Stream → Type 0) → ((stream : Stream) → P stream) → OnText o P
 every_text None P h = tt
 every_text (Some (Unwrap stream strategy)) P h = tt
@@ -35,22 +23,6 @@ every_text (Some (StreamText stream)) P h = h stream
 every_text (Some (QpEncode options)) P h = tt
 every_text (Some (QpDecode options)) P h = tt
 every_text (Some (Make parts)) P h = tt
-
-pub every_quoted : (o : Option Asked) (P : Bool → Quoted → Type 0) → ((encodes : Bool) (options : Quoted) → P encodes options) → OnQuoted o P
-every_quoted None P h = tt
-every_quoted (Some (Unwrap stream strategy)) P h = tt
-every_quoted (Some (StreamText stream)) P h = tt
-every_quoted (Some (QpEncode options)) P h = h true options
-every_quoted (Some (QpDecode options)) P h = h false options
-every_quoted (Some (Make parts)) P h = tt
-
-pub every_make : (o : Option Asked) (P : ℕ → Type 0) → ((parts : ℕ) → P parts) → OnMake o P
-every_make None P h = tt
-every_make (Some (Unwrap stream strategy)) P h = tt
-every_make (Some (StreamText stream)) P h = tt
-every_make (Some (QpEncode options)) P h = tt
-every_make (Some (QpDecode options)) P h = tt
-every_make (Some (Make parts)) P h = h parts
 
 -- nothing was read and written, for want of memory
 pub delivers_memory : (value : List ℕ → Answer) (most : ℕ) (left taken : Option (List ℕ)) → Delivers value most left left taken taken Memory

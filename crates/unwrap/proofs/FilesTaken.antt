@@ -12,7 +12,6 @@ use Rattle.unwrap.specs.declared.status.Status.TheVariants.{Done, Header, Usage,
 use Rattle.unwrap.specs.Files.{file}
 use Rattle.unwrap.specs.Indexes.{Adds, IsOfFiles, MakesTables, Refused, OfMemory, OfShelf, OfFile}
 use Rattle.enc_front.specs.declared.encoding.Encoding.{Encoding}
-use Rattle.unwrap.specs.Asked.{Asked}
 use Rattle.unwrap.specs.Commands.{named}
 use Rattle.unwrap.specs.Status.{Counts, IsBehindFiles, TellsTable}
 use Rattle.unwrap.specs.TablesOf.{FailsAt, Files, IfTold, IsFaultOfFile, IsShelfFailure, Named, TakesFiles, WithTables, calls_after, shelf_fault, tables_from, tables_of, then_on, with_file}
@@ -102,20 +101,6 @@ stands_at raw n d within =
       next = rw add-one (take_next n files _ _ behind);
       split = sym (take-append-drop n files) ∙ ap (λ l. take n files ++ l) (rw add-one behind);
     }
-
--- no file was taken yet
-pub took_none : (files : List Named) (told : Option Files) (faults calls : ℕ) (indexes : Indexes) → indexes ≡ [] → Took files told told faults faults calls calls 0 indexes
-took_none files told faults calls indexes none = record {
-  same = refl;
-  counted = refl;
-  called = refl;
-  made = by_told told;
-  start = λ _. none;
-}
-  where
-    by_told : (o : Option Files) → IfSome o (λ all. tables_of all (take 0 files) ≡ Ok indexes)
-    by_told None = tt
-    by_told (Some all) = ap Ok (sym none)
 
 -- one file more was taken
 pub took_more : (files : List Named) (told told' told'' : Option Files) (faults faults' faults'' calls calls' calls'' n : ℕ) (indexes indexes' : Indexes) (named : Named)
@@ -237,20 +222,6 @@ took_refused files told told' told'' faults faults' faults'' calls calls' calls'
     by_tables (Ok more) e = cc
     by_tables (Err s) e = let is : status ≡ s = cc in inl is
 
--- where a command goes on behind its files
-no_failure : (status : Status) → IsBehindFiles status → IsShelfFailure status → ⊥
-no_failure (Shelf fault) h e = h
-no_failure (BadIndex fault) h e = e
-no_failure Done h e = e
-no_failure (Header error) h e = e
-no_failure Usage h e = e
-no_failure (NoTable encoding) h e = e
-no_failure ReadFault h e = e
-no_failure TooMuch h e = e
-no_failure WriteFault h e = e
-no_failure Memory h e = e
-no_failure (Quoted error) h e = e
-
 no_fault : (status : Status) → IsBehindFiles status → IsFaultOfFile status → ⊥
 no_fault (Shelf fault) h e = h
 no_fault (BadIndex fault) h e = h
@@ -320,20 +291,6 @@ with_refused files told told' faults faults' calls calls' status P refused memor
     by_status WriteFault h takes = absurd h
     by_status (Quoted error) h takes = absurd h
 
--- a command that names no file
-pub takes_nothing : (told : Option Files) (faults calls : ℕ) (status : Status) → (IsShelfFailure status → ⊥) → (IsFaultOfFile status → ⊥)
-    → TakesFiles [] told told faults faults calls calls status
-takes_nothing told faults calls status no_failure no_fault = record {
-  same = refl;
-  counted = λ _. refl;
-  failed = λ fault e short. absurd (no_failure (subst IsShelfFailure (sym e) short));
-  fault = λ h. absurd (no_fault h);
-  ends = tt;
-}
-
-pub takes_behind : (told : Option Files) (faults calls : ℕ) (status : Status) → IsBehindFiles status → TakesFiles [] told told faults faults calls calls status
-takes_behind told faults calls status behind = takes_nothing told faults calls status (no_failure status behind) (no_fault status behind)
-
 pub behind_no_usage : (status : Status) → IsBehindFiles status → status ≢ Usage
 behind_no_usage status behind e = subst IsBehindFiles e behind
 
@@ -350,15 +307,6 @@ files_counts status reads writes of_files = record {
 }
 
 -- no memory for the words
-pub takes_memory : (files : List Named) (told : Option Files) (faults calls : ℕ) → TakesFiles files told told faults faults calls calls Memory
-takes_memory files told faults calls = record {
-  same = refl;
-  counted = λ _. refl;
-  failed = λ fault e _. cc;
-  fault = λ h. absurd h;
-  ends = told_always files told _ (λ all. for_err (tables_of all files) _ (λ _. inr (inl refl)));
-}
-
 pub with_memory : (files : List Named) (told : Option Files) (P : Indexes → Type 0) → ((indexes : Indexes) → P indexes) → WithTables files told Memory P
 with_memory files told P memory = λ _. told_always files told _ (λ all. by_tables (tables_of all files))
   where
@@ -372,13 +320,3 @@ tells_memory missing = record { table = λ encoding e. cc; no_table = by_missing
     by_missing : (m : Option Encoding) → IfSome m (λ encoding. (Memory ≡ NoTable encoding) ⊎ (Memory ≡ Memory))
     by_missing None = tt
     by_missing (Some encoding) = inr refl
-
--- names of files, where there is none
-pub none_named : (raw : List IndexFile) → map file_view raw ≡ [] → raw ≡ []
-none_named [] none = refl
-none_named (x ∷ raw) none = cc
-
--- what was asked for
-pub takes_named : (o p : Option Asked) (told told' : Option Files) (faults faults' calls calls' : ℕ) (status : Status) → o ≡ p
-    → TakesFiles (named p) told told' faults faults' calls calls' status → TakesFiles (named o) told told' faults faults' calls calls' status
-takes_named o p told told' faults faults' calls calls' status same h = subst (λ (x : Option Asked). TakesFiles (named x) told told' faults faults' calls calls' status) (sym same) h

@@ -164,11 +164,6 @@ unwraps_refused o i room value left faults e enough refused = by_missing (unknow
         let told : build.NoTable encoding ≡ e = cc in
         subst (λ (x : BuildError). Unwraps (unknown_encoding o i) value o.limit left left faults faults (Err (errors.build_error x))) told (is, refl, refl)
 
--- no memory for the buffers
-pub unwraps_memory : (missing : Option Encoding) (value : List ℕ → Result (List ℕ) HeaderFault) (limit : ℕ) (left : Option (List ℕ)) (faults : ℕ)
-    → Unwraps missing value limit left left faults faults (Err error.Memory)
-unwraps_memory missing value limit left faults = (refl, ([], Consumes-nil left, omega arith))
-
 -- what is written of it
 has_fault : (strategy : RecoverStrategy) (o : Options) (i : Indexes) (left left' : Option (List ℕ)) (faults faults' : ℕ) (e : Error)
     → unknown_encoding o i ≡ None → HasFault (header_of strategy o i) o.limit left left' faults faults' (fault_of e)

@@ -1,14 +1,14 @@
 //! Commands.
-ghost use Rattle.std.specs.Prelude.{◌≡◌, ◌≢◌, ◌⊎◌, [], Some, None};
+ghost use Rattle.std.specs.Prelude.{◌≡◌, ◌⊎◌, None};
 ghost use Rattle.std.specs.Io.KnownBytes.{Appends};
 ghost use Rattle.enc_io.specs.Faults.{Rose};
 ghost use Rattle.unwrap.specs.Asked.{asked, texts_of};
-ghost use Rattle.unwrap.specs.Commands.{Keeps, MayHaveText, OnMake, OnQuoted, OnText, OnUnwrap, command_view, named};
+ghost use Rattle.unwrap.specs.Commands.{Keeps, OnMake, OnQuoted, OnText, OnUnwrap, named};
 ghost use Rattle.unwrap.specs.Delivers.{Delivers};
 ghost use Rattle.unwrap.specs.Header.{EndsUnwrap};
 ghost use Rattle.unwrap.specs.Made.{TellsMade};
 ghost use Rattle.unwrap.specs.Quoted.{quoted_value};
-ghost use Rattle.unwrap.specs.Status.{Counts, IsBeforeSource, note_of};
+ghost use Rattle.unwrap.specs.Status.{Counts, note_of};
 ghost use Rattle.unwrap.specs.Streams.{EndsText};
 ghost use Rattle.unwrap.specs.TablesOf.{TakesFiles};
 
@@ -26,103 +26,22 @@ use crate::text::stream;
 use enc_io::Source;
 use std::alloc::Global;
 
-// Performs a command.
-fn perform<S: Source, F: Shelf, K: Sink>(
-    alloc: Global,
-    command: Command<'_>,
-    shelf: &mut F,
-    source: S,
-    out: &mut K,
-) -> Finish<S>
-    ensures no_usage { result.status ≢ Status.Usage }
-    ensures unread { IsBeforeSource result.status → result.source ≡ source }
-    ensures counts { Counts result.status (S.faults source) (S.faults result.source)
-        (K.faults out.old) (K.faults out.new) }
-    ensures kept { ¬ MayHaveText (Some (command_view command.entry)) result.status
-        → out.new ≡ out.old }
-    ensures shelf { named (Some (command_view command.entry)) ≡ [] → shelf.new ≡ shelf.old }
-    ensures files { TakesFiles (named (Some (command_view command.entry))) (F.files shelf.old)
-        (F.files shelf.new) (F.faults shelf.old) (F.faults shelf.new) (F.calls shelf.old)
-        (F.calls shelf.new) result.status }
-    ensures unwrap { OnUnwrap (Some (command_view command.entry)) (λ stream strategy.
-        EndsUnwrap stream strategy (F.files shelf.old) (S.left source) (S.left result.source)
-        (K.taken out.old) (K.taken out.new) result.status) }
-    ensures text { OnText (Some (command_view command.entry)) (λ stream.
-        EndsText stream (F.files shelf.old) (S.left source) (S.left result.source)
-        (K.taken out.old) (K.taken out.new) result.status) }
-    ensures quoted { OnQuoted (Some (command_view command.entry)) (λ encodes options. Delivers
-        (quoted_value encodes options) options.limit (S.left source) (S.left result.source)
-        (K.taken out.old) (K.taken out.new) result.status) }
-    ensures make { OnMake (Some (command_view command.entry)) (λ parts. (result.source ≡ source)
-        × TellsMade parts (K.taken out.old) (K.taken out.new) result.status) }
-{
-    match command {
-        Command::Unwrap(options, strategy) => show(alloc, &options, strategy, shelf, source, out),
-        Command::QpEncode(options) => {
-            let encodes = true;
-            deliver(alloc, &Quoted { options, encodes }, source, out)
-        }
-        Command::QpDecode(options) => {
-            let encodes = false;
-            deliver(alloc, &Quoted { options, encodes }, source, out)
-        }
-        Command::StreamText(options) => stream(alloc, &options, shelf, source, out),
-        Command::Make(parts) => write_made(alloc, parts.number, source, out),
-    }
-}
-
-// Ends as the words ask for.
-fn end<S: Source, F: Shelf, K: Sink>(
-    alloc: Global,
-    words: &[String],
-    shelf: &mut F,
-    source: S,
-    out: &mut K,
-) -> Finish<S>
-    ensures usage { result.status ≡ Status.Usage → asked (texts_of words.now) ≡ None }
-    ensures refused { asked (texts_of words.now) ≡ None
-        → ((result.status ≡ Status.Usage) ⊎ (result.status ≡ Status.Memory))
-        × (result.source ≡ source) }
-    ensures counts { Counts result.status (S.faults source) (S.faults result.source)
-        (K.faults out.old) (K.faults out.new) }
-    ensures unread { IsBeforeSource result.status → result.source ≡ source }
-    ensures kept { ¬ MayHaveText (asked (texts_of words.now)) result.status
-        → out.new ≡ out.old }
-    ensures shelf { named (asked (texts_of words.now)) ≡ [] → shelf.new ≡ shelf.old }
-    ensures files { TakesFiles (named (asked (texts_of words.now))) (F.files shelf.old)
-        (F.files shelf.new) (F.faults shelf.old) (F.faults shelf.new) (F.calls shelf.old)
-        (F.calls shelf.new) result.status }
-    ensures unwrap { OnUnwrap (asked (texts_of words.now)) (λ stream strategy.
-        EndsUnwrap stream strategy (F.files shelf.old) (S.left source) (S.left result.source)
-        (K.taken out.old) (K.taken out.new) result.status) }
-    ensures text { OnText (asked (texts_of words.now)) (λ stream.
-        EndsText stream (F.files shelf.old) (S.left source) (S.left result.source)
-        (K.taken out.old) (K.taken out.new) result.status) }
-    ensures quoted { OnQuoted (asked (texts_of words.now)) (λ encodes options. Delivers
-        (quoted_value encodes options) options.limit (S.left source) (S.left result.source)
-        (K.taken out.old) (K.taken out.new) result.status) }
-    ensures make { OnMake (asked (texts_of words.now)) (λ parts. (result.source ≡ source)
-        × TellsMade parts (K.taken out.old) (K.taken out.new) result.status) }
-{
-    match command_of(alloc, words) {
-        Ok(command) => perform(alloc, command, shelf, source, out),
-        Err(Refusal::Usage) => Finish {
-            status: Status::Usage,
-            source,
-        },
-        Err(Refusal::Memory) => Finish {
-            status: Status::Memory,
-            source,
-        },
-    }
-}
-
 // Tells a status in one line.
 pub(crate) fn tell<N: Sink>(status: &Status, notes: &mut N)
     ensures { ¬ Rose (N.faults notes.old) (N.faults notes.new)
         → Appends (N.taken notes.old) (N.taken notes.new) (note_of status.now) }
 {
     let _ = write_all(notes, status.note().as_bytes());
+}
+
+// Tells how a command ended in one line, and hands its end on.
+fn told<S: Source, N: Sink>(finish: Finish<S>, notes: &mut N) -> Finish<S>
+    ensures same { result ≡ finish }
+    ensures notes { ¬ Rose (N.faults notes.old) (N.faults notes.new)
+        → Appends (N.taken notes.old) (N.taken notes.new) (note_of result.status) }
+{
+    tell(&finish.status, notes);
+    finish
 }
 
 /// Runs the command that the words ask for; they are the words after the program's name. Whatever
@@ -193,7 +112,31 @@ pub fn run<S: Source, F: Shelf, K: Sink, N: Sink>(
     ensures make { OnMake (asked (texts_of words.now.items)) (λ parts. (result.source ≡ source)
         × TellsMade parts (K.taken out.old) (K.taken out.new) result.status) }
 {
-    let finish = end(alloc, words.as_slice(), shelf, source, out);
-    tell(&finish.status, notes);
-    finish
+    match command_of(alloc, words.as_slice()) {
+        Ok(Command::Unwrap(options, strategy)) => {
+            told(show(alloc, &options, strategy, shelf, source, out), notes)
+        }
+        Ok(Command::StreamText(options)) => {
+            told(stream(alloc, &options, shelf, source, out), notes)
+        }
+        Ok(Command::QpEncode(options)) => {
+            let encodes = true;
+            let quoted = Quoted { options, encodes };
+            told(deliver(alloc, &quoted, source, out), notes)
+        }
+        Ok(Command::QpDecode(options)) => {
+            let encodes = false;
+            let quoted = Quoted { options, encodes };
+            told(deliver(alloc, &quoted, source, out), notes)
+        }
+        Ok(Command::Make(parts)) => told(write_made(alloc, parts.number, source, out), notes),
+        Err(Refusal::Usage) => {
+            let status = Status::Usage;
+            told(Finish { status, source }, notes)
+        }
+        Err(Refusal::Memory) => {
+            let status = Status::Memory;
+            told(Finish { status, source }, notes)
+        }
+    }
 }

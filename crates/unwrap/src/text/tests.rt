@@ -1,9 +1,13 @@
 //! What no clause says: which bytes are written over devices that fail, and how a source is asked.
+ghost use Rattle.std.specs.Prelude.{◌≤◌};
+
 use crate::devices::memory::MemorySink;
 use crate::header::unwrap_header;
 use crate::text::{CopyFault, copy_text};
 use enc_front::{Decoder, Encoding, Tables};
-use enc_io::{DecodeReaderBytesBuilder, Failed, MemorySource, Source};
+use enc_io::{DecodeReaderBytes, DecodeReaderBytesBuilder, Failed, MemorySource, Source};
+use std::alloc::{AllocError, Global};
+use std::process::Abort;
 use std::test::Fail;
 use words::RecoverStrategy;
 
@@ -70,58 +74,74 @@ impl Source for Again {
     }
 }
 
+// A reader of the stream, whose source gives byte by byte and fails at this call.
+fn reader_of<'t>(
+    alloc: Global,
+    tables: &'t Tables,
+    failing: u64,
+) -> Result<DecodeReaderBytes<'t, MemorySource>, Fail> {
+    let bytes = Vec::from_slice(alloc, STREAM)?;
+    let source = MemorySource::new(bytes, 1, vec![in alloc; failing]?);
+    let built = DecodeReaderBytesBuilder::new().build(alloc, tables, source);
+    Ok(built.map_err(|_| "not built")?)
+}
+
+// A sink with room for the text, which takes so many bytes a call and fails at this one.
+fn sink_of(alloc: Global, step: usize, failing: u64) -> Result<MemorySink, AllocError>
+    requires { 1 ≤ step }
+{
+    let room = vec![in alloc; 0u8; 16]?;
+    Ok(MemorySink::new(room, step, vec![in alloc; failing]?))
+}
+
+fn check_read(rt: &impl Abort, alloc: Global, tables: &Tables, call: u64) -> Result<(), Fail> {
+    let mut reader = reader_of(alloc, tables, call)?;
+    let mut out = sink_of(alloc, 16, 0)?;
+    let mut piece = [0; 3];
+    // Six calls give the bytes and the seventh the end, so the eighth doesn't come.
+    if call < 8 {
+        let copied = copy_text(&mut reader, &mut piece, &mut out);
+        assert_eq!(rt; copied, Err(CopyFault::ReadFault), "{call}");
+    }
+    let copied = copy_text(&mut reader, &mut piece, &mut out);
+    assert!(rt; copied.is_ok(), "{call}");
+    assert_eq!(rt; out.taken(), TEXT, "{call}");
+    Ok(())
+}
+
 #[test]
 fn goes_on_behind_each_failed_read(rt: HostRuntime) -> Result<(), Fail> {
-    let alloc = rt.alloc();
     let tables = Tables::new();
     for call in 1..9 {
-        let bytes = Vec::from_slice(alloc, STREAM)?;
-        let source = MemorySource::new(bytes, 1, vec![in alloc; call]?);
-        let built = DecodeReaderBytesBuilder::new().build(alloc, &tables, source);
-        let mut reader = built.map_err(|_| "not built")?;
-        let mut out = MemorySink::new(vec![in alloc; 0u8; 16]?, 16, Vec::new(alloc));
-        let mut piece = [0; 3];
-        // Six calls give the bytes and the seventh the end, so the eighth doesn't come.
-        if call < 8 {
-            let copied = copy_text(&mut reader, &mut piece, &mut out);
-            assert_eq!(rt; copied, Err(CopyFault::ReadFault), "{call}");
-        }
-        let copied = copy_text(&mut reader, &mut piece, &mut out);
-        assert!(rt; copied.is_ok(), "{call}");
-        assert_eq!(rt; out.taken(), TEXT, "{call}");
+        check_read(&rt, rt.alloc(), &tables, call)?;
     }
+    Ok(())
+}
+
+fn check_write(rt: &impl Abort, alloc: Global, call: u64, front: &[u8]) -> Result<(), Fail> {
+    let tables = Tables::new();
+    let mut reader = reader_of(alloc, &tables, 0)?;
+    let mut out = sink_of(alloc, 1, call)?;
+    let copied = copy_text(&mut reader, &mut [0; 3], &mut out);
+    assert_eq!(rt; copied, Err(CopyFault::WriteFault), "{call}");
+    assert_eq!(rt; out.taken(), front, "{call}");
     Ok(())
 }
 
 #[test]
 fn stops_at_each_failed_write(rt: HostRuntime) -> Result<(), Fail> {
-    let alloc = rt.alloc();
-    let tables = Tables::new();
-    let rows: [(u64, &[u8]); 4] = [(1, b""), (2, b"a"), (3, b"a\xEF"), (4, b"a\xEF\xBF")];
-    for (call, front) in rows {
-        let source = MemorySource::new(Vec::from_slice(alloc, STREAM)?, 1, Vec::new(alloc));
-        let built = DecodeReaderBytesBuilder::new().build(alloc, &tables, source);
-        let mut reader = built.map_err(|_| "not built")?;
-        let mut out = MemorySink::new(vec![in alloc; 0u8; 16]?, 1, vec![in alloc; call]?);
-        let mut piece = [0; 3];
-        let copied = copy_text(&mut reader, &mut piece, &mut out);
-        assert_eq!(rt; copied, Err(CopyFault::WriteFault), "{call}");
-        assert_eq!(rt; out.taken(), front, "{call}");
-    }
-    Ok(())
+    check_write(&rt, rt.alloc(), 1, b"")?;
+    check_write(&rt, rt.alloc(), 2, b"a")?;
+    check_write(&rt, rt.alloc(), 3, b"a\xEF")?;
+    check_write(&rt, rt.alloc(), 4, b"a\xEF\xBF")
 }
 
-#[test]
-fn asks_for_a_buffer_at_most(rt: HostRuntime) -> Result<(), Fail> {
+// The header text of a stream, read through a buffer of four bytes; and the source behind it.
+fn text_of<S: Source + Drop>(alloc: Global, source: S) -> Result<(String, S), Fail> {
     let tables = Tables::new();
     let builder = DecodeReaderBytesBuilder::new();
-    let source = Watched {
-        rest: b"\xFF\xFEh\0e\0l\0l\0o\0",
-        longest: 0,
-        calls: 0,
-    };
     let end = unwrap_header(
-        rt.alloc(),
+        alloc,
         source,
         &tables,
         &builder,
@@ -129,56 +149,57 @@ fn asks_for_a_buffer_at_most(rt: HostRuntime) -> Result<(), Fail> {
         4,
         64,
     );
-    assert!(rt; end.source.longest <= 4);
-    let text = end.answer.map_err(|_| "no text")?;
+    Ok((end.answer.map_err(|_| "no text")?, end.source))
+}
+
+#[test]
+fn asks_for_a_buffer_at_most(rt: HostRuntime) -> Result<(), Fail> {
+    let source = Watched {
+        rest: b"\xFF\xFEh\0e\0l\0l\0o\0",
+        longest: 0,
+        calls: 0,
+    };
+    let (text, source) = text_of(rt.alloc(), source)?;
     assert_eq!(rt; text.as_str(), "hello");
+    assert!(rt; source.longest <= 4);
     Ok(())
 }
 
 #[test]
 fn asks_no_source_behind_its_end(rt: HostRuntime) -> Result<(), Fail> {
-    let tables = Tables::new();
-    let builder = DecodeReaderBytesBuilder::new();
-    let end = unwrap_header(
-        rt.alloc(),
-        Again { calls: 0 },
-        &tables,
-        &builder,
-        RecoverStrategy::Abort,
-        4,
-        64,
-    );
-    assert_eq!(rt; end.source.calls, 2);
-    let text = end.answer.map_err(|_| "no text")?;
+    let (text, source) = text_of(rt.alloc(), Again { calls: 0 })?;
     assert_eq!(rt; text.as_str(), "ab");
+    assert_eq!(rt; source.calls, 2);
     Ok(())
 }
 
-#[test]
-fn cut_marks_are_text(rt: HostRuntime) -> Result<(), Fail> {
+// Decodes the bytes cut at a place as windows-1252, which marks don't change here.
+fn check_cut(rt: &impl Abort, bytes: &[u8], cut: usize, text: &[u8]) {
     let tables = Tables::new();
-    let rows: [(&[u8], &[u8]); 3] = [
-        (b"\xEF\xBBa", b"\xC3\xAF\xC2\xBBa"),
-        (b"\xFEa", b"\xC3\xBEa"),
-        (b"\xFF", b"\xC3\xBF"),
-    ];
     assert!(rt; tables.has(Encoding::Windows1252));
-    for (bytes, text) in rows {
-        for cut in 0..4 {
-            if cut <= bytes.len() {
-                let mut decoder = Decoder::new(Encoding::Windows1252, &tables);
-                let mut dst = [0; 16];
-                let (_, read, first, _) = decoder.decode_to_utf8(&bytes[..cut], &mut dst, false);
-                assert_eq!(rt; read, cut, "{bytes:?}");
-                assert!(rt; first <= 8);
-                assert!(rt; !decoder.is_finished());
-                let rest = &bytes[cut..];
-                let (_, read, second, _) = decoder.decode_to_utf8(rest, &mut dst[first..], true);
-                assert_eq!(rt; read, rest.len(), "{bytes:?} {cut}");
-                assert!(rt; second <= 8);
-                assert_eq!(rt; &dst[..first + second], text, "{bytes:?} {cut}");
-            }
-        }
+    assert!(rt; cut <= bytes.len());
+    let mut decoder = Decoder::new(Encoding::Windows1252, &tables);
+    let mut dst = [0; 16];
+    let (_, read, first, _) = decoder.decode_to_utf8(&bytes[..cut], &mut dst, false);
+    assert_eq!(rt; read, cut, "{bytes:?}");
+    assert!(rt; first <= 8);
+    assert!(rt; !decoder.is_finished());
+    let rest = &bytes[cut..];
+    let (_, read, second, _) = decoder.decode_to_utf8(rest, &mut dst[first..], true);
+    assert_eq!(rt; read, rest.len(), "{bytes:?} {cut}");
+    assert!(rt; second <= 8);
+    assert_eq!(rt; &dst[..first + second], text, "{bytes:?} {cut}");
+}
+
+fn check_cuts(rt: &impl Abort, bytes: &[u8], text: &[u8]) {
+    for cut in 0..=bytes.len() {
+        check_cut(rt, bytes, cut, text);
     }
-    Ok(())
+}
+
+#[test]
+fn cut_marks_are_text(rt: HostRuntime) {
+    check_cuts(&rt, b"\xEF\xBBa", b"\xC3\xAF\xC2\xBBa");
+    check_cuts(&rt, b"\xFEa", b"\xC3\xBEa");
+    check_cuts(&rt, b"\xFF", b"\xC3\xBF");
 }
