@@ -1,6 +1,9 @@
-"""Which files of the crates stand on which, read from their `use` lines, as the
-table "Rooms" of each crate's README. `rooms.py` compares, `rooms.py --write`
-writes the tables anew."""
+"""Which files of the crates stand on which, read from their `use` lines and paths,
+as the table "Rooms" of each crate's README: the files that name a file, the
+traits through which it is called besides, and its tests. These are the file
+x/tests.rt beside x.rt; where there is none, the tests that name x, or else those
+of the files that do. `rooms.py` compares, `rooms.py --write` writes the tables
+anew."""
 
 import re
 import sys
@@ -12,23 +15,23 @@ CRATES = [
     for line in (TOP / "crates.txt").read_text().splitlines()
     if ":" in line and not line.startswith("#")
 ]
-HEAD = "| file | what stands there | called from | tests |"
+HEAD = "| file | what stands there | named by | tests |"
 
 
-def files(crate):
-    """The files of a crate by their module's path, tests apart."""
+def files(crate, tests):
+    """The files of a crate by their module's path, its tests or the others."""
     found = {}
     for path in sorted((TOP / "crates" / crate / "src").rglob("*.rt")):
         parts = path.relative_to(TOP / "crates" / crate / "src").with_suffix("").parts
-        if "tests" in parts:
-            continue
-        found[() if parts in (("lib",), ("main",)) else parts] = path
+        if ("tests" in parts) == tests:
+            found[() if parts in (("lib",), ("main",)) else parts] = path
     return found
 
 
 def code(path):
-    """A file without comments and ghost lines."""
+    """A file without comments, attributes and ghost lines."""
     text = re.sub(r"//[^\n]*", "", path.read_text())
+    text = re.sub(r"#!?\[[^\n]*\]", "", text)
     return re.sub(r"\bghost use [^;]*;", "", text)
 
 
@@ -52,7 +55,8 @@ def paths(tree, before=()):
             item += letter
 
 
-MODULES = {crate: files(crate) for crate in CRATES}
+MODULES = {crate: files(crate, False) for crate in CRATES}
+TESTS = {crate: files(crate, True) for crate in CRATES}
 CODE = {crate: {m: code(p) for m, p in MODULES[crate].items()} for crate in CRATES}
 
 
@@ -70,9 +74,9 @@ def module_at(crate, parts):
     return ()
 
 
-def named(crate, module):
-    """The files that a file names: (crate, module) each."""
-    text = re.sub(r"\bpub use [^;]*;", "", CODE[crate][module])
+def named(crate, module, text):
+    """The files that a file's text names: (crate, module) each."""
+    text = re.sub(r"\bpub use [^;]*;", "", text)
     for tree in re.findall(r"(?:^|\n)\s*(?:pub(?:\(\w+\))? )?use ([^;]*);", text):
         for path in paths(tree):
             if path[0] in ("crate", "super", "self"):
@@ -92,25 +96,84 @@ def named(crate, module):
         yield crate, module_at(crate, tuple(word.split("::")[:-1]))
 
 
-USED = {}
+def used_names(crate, module, text):
+    """The names that a file's `use` lines bring in, with the files they are from."""
+    names = {}
+    for tree in re.findall(r"(?:^|\n)\s*use ([^;]*);", text):
+        for path in paths(tree):
+            if path[0] == "crate":
+                names[path[-1]] = crate, module_at(crate, path[1:])
+            elif path[0] in MODULES:
+                names[path[-1]] = path[0], module_at(path[0], path[1:])
+    return names
+
+
+USED, THROUGH, TESTED = {}, {}, {}
 for crate in CRATES:
-    for module in MODULES[crate]:
-        for there in named(crate, module):
-            if there != (crate, module):
-                USED.setdefault(there, set()).add((crate, module))
+    for module, text in CODE[crate].items():
+        here = crate, module
+        for there in named(crate, module, text):
+            if there != here:
+                USED.setdefault(there, set()).add(here)
+        names = used_names(crate, module, text)
+        for trait in re.findall(r"\bimpl(?:<[^{]*?>)? (\w+)(?:<[^{]*?>)? for ", text):
+            if names.get(trait, here) != here:
+                THROUGH.setdefault(here, set()).add(names[trait])
+    for module, path in TESTS[crate].items():
+        for there in named(crate, module[:-1], code(path)):
+            TESTED.setdefault(there, set()).add((crate, module))
 
 
-def shown(crate, module, own):
+def shown(place, own):
+    crate, module = place
     root = "main" if (TOP / "crates" / crate / "src/main.rt").exists() else "lib"
     name = "/".join(module) or root
-    return name if crate == own else f"{crate}/{name}"
+    return f"`{name if crate == own else f'{crate}/{name}'}`"
+
+
+def listed(places, own):
+    places = sorted(places, key=lambda place: (place[0] != own, place))
+    return ", ".join(shown(place, own) for place in places)
+
+
+def has_one_room(crate):
+    """Whether the tests of a crate stand at its root: of a program, or where no others are."""
+    root = (TOP / "crates" / crate / "src/main.rt").exists()
+    return root or all(module[0] == "tests" for module in TESTS[crate])
+
+
+def tests_of(place):
+    """The tests of a file, by the nearest of its callers that have some."""
+    crate, module = place
+    if has_one_room(crate):
+        named_there = {test for test in TESTED.get(place, ()) if test[0] == crate}
+        beside = {(crate, module + ("tests",))} if module + ("tests",) in TESTS[crate] else set()
+        return named_there | beside | {(crate, ("tests",))}
+    seen, now = {place}, [place]
+    while now:
+        found = set()
+        for crate, module in now:
+            beside = module + ("tests",)
+            if module and beside in TESTS[crate]:
+                found.add((crate, beside))
+            elif (crate, module) == place:
+                found |= TESTED.get(place, set())
+        if found:
+            own = {test for test in found if test[0] == place[0]}
+            return own or found
+        callers = set()
+        for one in now:
+            callers |= USED.get(one, set()) | THROUGH.get(one, set())
+        now = sorted(callers - seen)
+        seen |= callers
+    return set()
 
 
 def table(crate):
     rows = [HEAD, "|---|---|---|---|"]
-    whole = (TOP / "crates" / crate / "src/tests.rt").exists()
+    whole = ("tests",) in TESTS[crate]
     for module, path in sorted(MODULES[crate].items()):
-        own = re.sub(r"#!?\[[^\n]*\]|(?:pub )?(?:use|mod) [^;]*;", "", CODE[crate][module])
+        own = re.sub(r"(?:pub )?(?:use|mod) [^;]*;", "", CODE[crate][module])
         if not own.strip() and (module or not whole):
             continue
         doc = []
@@ -119,15 +182,13 @@ def table(crate):
                 break
             doc.append(line[3:].strip())
         has = re.split(r"(?<=\.)\s", " ".join(doc))[0].rstrip(".")
-        users = sorted(USED.get((crate, module), ()), key=lambda u: (u[0] != crate, u))
-        called = ", ".join(f"`{shown(c, m, crate)}`" for c, m in users)
-        beside = path.with_suffix("") / "tests.rt"
-        tests = ""
-        if module and beside.exists():
-            tests = f"`{'/'.join(module)}/tests`"
-        elif not module and whole:
-            tests = "`tests`"
-        rows.append(f"| `{shown(crate, module, crate)}` | {has} | {called} | {tests} |")
+        here = crate, module
+        by = listed(USED.get(here, ()), crate)
+        if here in THROUGH:
+            through = "called through " + listed(THROUGH[here], crate)
+            by = f"{by}; {through}" if by else through
+        tests = "`tests`" if not module and whole else listed(tests_of(here), crate)
+        rows.append(f"| {shown(here, crate)} | {has} | {by} | {tests} |")
     return "\n".join(rows)
 
 
