@@ -16,6 +16,8 @@ pub mod laws;
 pub mod results;
 pub mod room;
 pub mod space;
+#[cfg(test)]
+mod testing;
 pub mod text_slice;
 pub mod unaligned;
 pub mod unicode;

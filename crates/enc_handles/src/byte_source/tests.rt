@@ -1,13 +1,7 @@
 //! Reading byte by byte.
 use super::*;
-
-// Where a check found no space, the place that it answered.
-fn full_at<T: Drop>(space: Space<T>) -> Option<usize> {
-    match space {
-        Space::Available(_) => None,
-        Space::Full(place) => Some(place),
-    }
-}
+use crate::testing::{full_at, same};
+use std::process::Abort;
 
 // What the next byte is, and the places before the read, after it and after it was put back.
 fn peek<B: ByteSlice>(source: &mut ByteSourceOver<B>) -> Option<(u8, usize, usize, usize)> {
@@ -34,13 +28,18 @@ fn next<B: ByteSlice>(source: &mut ByteSourceOver<B>) -> Option<u8> {
     }
 }
 
+// Looks at a byte, puts it back, and reads it.
+fn check(rt: &impl Abort, source: &mut ByteSource, byte: u8, places: (usize, usize, usize)) {
+    let (before, after, back) = places;
+    same(rt, &peek(source), &Some((byte, before, after, back)), &byte);
+    same(rt, &next(source), &Some(byte), &byte);
+}
+
 #[test]
 fn a_source_is_read_and_put_back(rt: HostRuntime) {
     let mut source = ByteSource::new(&[0x61, 0xFF]);
-    assert_eq!(rt; peek(&mut source), Some((0x61, 0, 1, 0)));
-    assert_eq!(rt; next(&mut source), Some(0x61));
-    assert_eq!(rt; peek(&mut source), Some((0xFF, 1, 2, 1)));
-    assert_eq!(rt; next(&mut source), Some(0xFF));
-    assert_eq!(rt; next(&mut source), None);
-    assert_eq!(rt; full_at(source.check_available()), Some(2));
+    check(&rt, &mut source, 0x61, (0, 1, 0));
+    check(&rt, &mut source, 0xFF, (1, 2, 1));
+    same(&rt, &next(&mut source), &None, &"end");
+    same(&rt, &full_at(source.check_available()), &Some(2), &"end");
 }
