@@ -1,4 +1,4 @@
-//! A destination of bytes, and its handles.
+//! A destination of bytes, for encoders, and its handles, the leave to write one to four bytes.
 ghost use Rattle.std.specs.Prelude.{◌≡◌, ◌+◌, ◌-◌, ◌<◌, ◌≤◌, ◌↔◌, [], ◌∷◌, length, take, drop, true, List, ℕ};
 ghost use Rattle.std.specs.Borrow.{sem};
 ghost use Rattle.enc_handles.specs.Writing.{after_writing};

@@ -1,4 +1,4 @@
-//! What the bytes of a source lie in.
+//! The slice that a source of bytes reads from.
 ghost use Rattle.std.specs.Prelude.{◌≡◌, List, ℕ};
 
 /// What the bytes of a source lie in: a `&[u8]`.

@@ -1,4 +1,4 @@
-//! A source of bytes, with its read and unread handles.
+//! A source of bytes, for decoders, with its read and unread handles.
 ghost use Rattle.std.specs.Prelude.{◌≡◌, ◌+◌, ◌-◌, ◌<◌, ◌≤◌, ◌↔◌, [], length, slice_index, List, ℕ};
 ghost use Rattle.std.specs.Borrow.{sem};
 ghost use Rattle.enc_handles.specs.Reading.{left, after_reading};

@@ -1,4 +1,4 @@
-//! Destinations for text, in UTF-8 and in UTF-16.
+//! Destinations for text in UTF-8 and in UTF-16, for decoders, and the copies of text to them.
 ghost use Rattle.std.specs.Prelude.{◌≡◌, ◌+◌, ◌-◌, ◌<◌, ◌≤◌, ◌↔◌, [], ◌∷◌, length, true, false, List, ℕ, IsTrue, encode_utf8, slice_index, drop, IsOk, IfOk, IfErr, IfSome, IfNone, OnOk, OnErr};
 ghost use Rattle.enc_handles.specs.Ascii.{ascii_len, moved_len, moved_text, stop_result, GoesOn};
 ghost use Rattle.enc_handles.specs.Copies.{Copied, CopiesUtf8, CopiesUnits, CopiesUtf16, MovesScalars};

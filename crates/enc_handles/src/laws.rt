@@ -1,4 +1,4 @@
-//! Laws of the definitions. Each function's contract is a law; it does nothing.
+//! The law that UTF-16 is read back. The function's contract is the law; it does nothing.
 ghost use Rattle.std.specs.Prelude.{◌≡◌, ℕ, List};
 ghost use Rattle.enc_handles.specs.Scalars.{scalars16};
 ghost use Rattle.enc_handles.specs.Utf16.{encode_utf16_all};

@@ -1,4 +1,4 @@
-//! Sources, destinations and room handles.
+//! Sources and destinations of bytes and of text, and the handles that read and write there.
 #![tactic(auto)]
 
 mod ascii_to_bytes;

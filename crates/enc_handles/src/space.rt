@@ -1,4 +1,4 @@
-//! The answer of a check.
+//! What a check answers, a handle or the place, and how a copy of ASCII ended.
 
 /// Whether there is space, or an element.
 #[derive(Drop)]

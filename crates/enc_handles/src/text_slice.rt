@@ -1,4 +1,4 @@
-//! What the text of a source lies in, and how a scalar is read there.
+//! The slice that a source of text reads from, in UTF-8 or UTF-16, and how a scalar is read there.
 ghost use Rattle.std.specs.Prelude.{◌≡◌, ◌+◌, ◌<◌, ◌≤◌, [], ◌∷◌, ◌++◌, ◌&&◌, IsTrue, Bool, true, length, take, drop, slice_index, List, ℕ};
 ghost use Rattle.std.specs.Str.{chars};
 ghost use Rattle.enc_handles.specs.Ascii.{moved_len};

@@ -1,4 +1,4 @@
-//! Code units that lie in bytes at any place.
+//! Code units of UTF-16 in a slice of bytes, which may begin at any place.
 ghost use Rattle.std.specs.Prelude.{◌≡◌, ◌+◌, ◌-◌, ◌*◌, ◌<◌, ◌≤◌, ◌↔◌, length, take, drop, slice_index, false, true, Bool, IsSome, IfSome};
 ghost use Rattle.enc_handles.specs.Utf16.{code_units, bmp_len};
 

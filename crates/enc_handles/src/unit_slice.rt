@@ -1,4 +1,4 @@
-//! What the text of a destination lies in, and how a scalar is written there.
+//! The slice that a destination of text writes to, in UTF-8 or UTF-16, and how text is put there.
 ghost use Rattle.std.specs.Prelude.{◌≡◌, ◌+◌, ◌-◌, ◌<◌, ◌≤◌, [], ◌∷◌, length, take, min, List, ℕ, encode_utf8, IfSome, IfNone};
 ghost use Rattle.std.specs.Borrow.{GName};
 ghost use Rattle.std.specs.Char.{IsScalar};

@@ -1,4 +1,4 @@
-//! Surrogates, and the scalars of code units.
+//! Surrogates, and the scalars that code units of UTF-16 stand for.
 ghost use Rattle.std.specs.Prelude.{◌≡◌, ◌<◌, ◌≤◌, IsTrue, length, IfSome, IfNone};
 ghost use Rattle.enc_handles.specs.Unaligned.{units_in};
 ghost use Rattle.enc_handles.specs.Utf16.{is_lead, is_trail, is_surrogate, pair_scalar, without_last_lead, HasScalarAt, BeginsNoPair};
