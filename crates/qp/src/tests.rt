@@ -1,12 +1,24 @@
 mod slow;
 
 ghost use Rattle.std.specs.Prelude.{◌≤◌};
+ghost use Rattle.qp.specs.Settings.{line_limit};
 
 use super::*;
 use slow::{slow_fault, slow_value};
+use std::fmt::Debug;
+use std::process::Abort;
 use std::test::Fail;
 
-const ROWS: [(&str, &[u8], &[u8]); 34] = [
+// Compares two values, of the row of this name. Proved once, so that a test that calls it costs
+// little.
+fn same<T: PartialEq + Debug, N: Debug>(rt: &impl Abort, got: &T, want: &T, name: &N) {
+    assert_eq!(rt; *got, *want, "{name:?}");
+}
+
+// A name, an input, and what is wanted.
+type Row = (&'static str, &'static [u8], &'static [u8]);
+
+const ROWS: [Row; 34] = [
     ("empty", b"", b""),
     ("plain", b"hello world", b"hello world"),
     (
@@ -91,7 +103,7 @@ const ROWS: [(&str, &[u8], &[u8]); 34] = [
     ("an escaped equals sign", b"=3D3D", b"=3D"),
 ];
 
-const STRICT_ROWS: [(&str, &[u8], &[u8]); 11] = [
+const STRICT_ROWS: [Row; 11] = [
     ("empty", b"", b""),
     ("a soft line break at the end, alone", b"a=\r\n", b"a"),
     (
@@ -231,7 +243,7 @@ const FAULTS: [(&str, &[u8], QuotedPrintableError); 23] = [
     ),
 ];
 
-const TEXT_ROWS: [(&str, &[u8], &[u8]); 20] = [
+const TEXT_ROWS: [Row; 20] = [
     ("empty", b"", b""),
     (
         "76 letters and one",
@@ -306,7 +318,7 @@ const TEXT_ROWS: [(&str, &[u8], &[u8]); 20] = [
     ("LF", b"a\nb", b"a=0Ab"),
 ];
 
-const BINARY_ROWS: [(&str, &[u8], &[u8]); 3] = [
+const BINARY_ROWS: [Row; 3] = [
     ("a line break", b"foo\r\n", b"foo=0D=0A"),
     ("a space and a line break", b" \r\n", b"=20=0D=0A"),
     (
@@ -317,37 +329,102 @@ const BINARY_ROWS: [(&str, &[u8], &[u8]); 3] = [
     ),
 ];
 
+// Decodes a row.
+fn check_decode(rt: &impl Abort, alloc: Global, mode: ParseMode, row: Row) -> Result<(), Fail> {
+    let (name, input, want) = row;
+    let decoded = decode(alloc, input, mode)?;
+    same(rt, &decoded.as_slice(), &want, &name);
+    Ok(())
+}
+
+// Decodes a row that has a fault.
+fn check_fault(
+    rt: &impl Abort,
+    alloc: Global,
+    name: &str,
+    input: &[u8],
+    want: QuotedPrintableError,
+) {
+    let answer = decode(alloc, input, ParseMode::Strict);
+    same(rt, &answer, &Err(QpError::Quoted(want)), &name);
+}
+
 #[test]
 fn decodes_rows(rt: HostRuntime) -> Result<(), Fail> {
-    for (name, input, want) in ROWS {
-        let decoded = decode(rt.alloc(), input, ParseMode::Robust)?;
-        assert_eq!(rt; decoded.as_slice(), want, "{name}");
+    for row in &ROWS {
+        check_decode(&rt, rt.alloc(), ParseMode::Robust, *row)?;
     }
-    for (name, input, want) in STRICT_ROWS {
-        let decoded = decode(rt.alloc(), input, ParseMode::Strict)?;
-        assert_eq!(rt; decoded.as_slice(), want, "{name}");
+    for row in &STRICT_ROWS {
+        check_decode(&rt, rt.alloc(), ParseMode::Strict, *row)?;
     }
-    for (name, input, want) in FAULTS {
-        let answer = decode(rt.alloc(), input, ParseMode::Strict);
-        assert!(rt; answer == Err(QpError::Quoted(want)), "{name}");
+    for row in &FAULTS {
+        check_fault(&rt, rt.alloc(), row.0, row.1, row.2.clone()?);
     }
+    Ok(())
+}
+
+// Encodes a row by both calls for text.
+fn check_text(rt: &impl Abort, alloc: Global, row: Row) -> Result<(), Fail> {
+    let (name, input, want) = row;
+    let text = encode_to_str(alloc, input)?;
+    same(rt, &text.as_bytes(), &want, &name);
+    let bytes = encode(alloc, input)?;
+    same(rt, &bytes.as_slice(), &want, &name);
+    Ok(())
+}
+
+// Encodes a row by both calls for anything.
+fn check_binary(rt: &impl Abort, alloc: Global, row: Row) -> Result<(), Fail> {
+    let (name, input, want) = row;
+    let text = encode_binary_to_str(alloc, input)?;
+    same(rt, &text.as_bytes(), &want, &name);
+    let bytes = encode_binary(alloc, input)?;
+    same(rt, &bytes.as_slice(), &want, &name);
     Ok(())
 }
 
 #[test]
 fn encodes_rows(rt: HostRuntime) -> Result<(), Fail> {
-    for (name, input, want) in TEXT_ROWS {
-        let text = encode_to_str(rt.alloc(), input)?;
-        assert_eq!(rt; text.as_bytes(), want, "{name}");
-        let bytes = encode(rt.alloc(), input)?;
-        assert_eq!(rt; bytes.as_slice(), want, "{name}");
+    for row in &TEXT_ROWS {
+        check_text(&rt, rt.alloc(), *row)?;
     }
-    for (name, input, want) in BINARY_ROWS {
-        let text = encode_binary_to_str(rt.alloc(), input)?;
-        assert_eq!(rt; text.as_bytes(), want, "{name}");
-        let bytes = encode_binary(rt.alloc(), input)?;
-        assert_eq!(rt; bytes.as_slice(), want, "{name}");
+    for row in &BINARY_ROWS {
+        check_binary(&rt, rt.alloc(), *row)?;
     }
+    Ok(())
+}
+
+// Decodes by these options; where nothing is wanted, the line is too long.
+fn check_decode_by(
+    rt: &impl Abort,
+    alloc: Global,
+    options: Options,
+    input: &[u8],
+    want: Option<&[u8]>,
+) -> Result<(), Fail> {
+    let answer = decode_with_options(alloc, input, options);
+    match want {
+        Some(want) => same(rt, &answer?.as_slice(), &want, &input),
+        None => {
+            let fault = QpError::Quoted(QuotedPrintableError::LineTooLong);
+            same(rt, &answer, &Err(fault), &input);
+        }
+    }
+    Ok(())
+}
+
+// Encodes by these options.
+fn check_encode_by(
+    rt: &impl Abort,
+    alloc: Global,
+    options: Options,
+    input: &[u8],
+    want: &[u8],
+) -> Result<(), Fail>
+    requires { 6 ≤ line_limit options }
+{
+    let text = encode_with_options(alloc, input, options)?;
+    same(rt, &text.as_bytes(), &want, &input);
     Ok(())
 }
 
@@ -357,56 +434,63 @@ fn takes_options(rt: HostRuntime) -> Result<(), Fail> {
         .line_length_limit(998)
         .input_mode(InputMode::Binary)
         .parse_mode(ParseMode::Robust);
-    let decoded = decode_with_options(rt.alloc(), b"=41\n", robust)?;
-    assert_eq!(rt; decoded.as_slice(), b"A\r\n".as_slice());
+    check_decode_by(&rt, rt.alloc(), robust, b"=41\n", Some(b"A\r\n"))?;
     let strict = Options::default().parse_mode(ParseMode::Strict);
     let seven = strict.clone()?.line_length_limit(7);
-    let decoded = decode_with_options(rt.alloc(), b"1234567\r\n", seven)?;
-    assert_eq!(rt; decoded.as_slice(), b"1234567\r\n".as_slice());
+    check_decode_by(&rt, rt.alloc(), seven, b"1234567\r\n", Some(b"1234567\r\n"))?;
     let six = strict.line_length_limit(6);
-    let answer = decode_with_options(rt.alloc(), b"1234567\r\n", six);
-    assert!(rt; answer == Err(QpError::Quoted(QuotedPrintableError::LineTooLong)));
+    check_decode_by(&rt, rt.alloc(), six, b"1234567\r\n", None)?;
     let least = Options::default().line_length_limit(6);
-    let text = encode_with_options(rt.alloc(), b"\x00\x00\x00", least)?;
-    assert_eq!(rt; text.as_bytes(), b"=00=\r\n=00=00".as_slice());
+    check_encode_by(&rt, rt.alloc(), least, b"\x00\x00\x00", b"=00=\r\n=00=00")?;
     let binary = Options::default().input_mode(InputMode::Binary);
-    let text = encode_with_options(rt.alloc(), b"foo\r\n", binary)?;
-    assert_eq!(rt; text.as_bytes(), b"foo=0D=0A".as_slice());
+    check_encode_by(&rt, rt.alloc(), binary, b"foo\r\n", b"foo=0D=0A")?;
+    Ok(())
+}
+
+const MESSAGES: [(QuotedPrintableError, &str); 5] = [
+    (
+        QuotedPrintableError::InvalidByte,
+        "A unallowed byte was found in the quoted-printable input",
+    ),
+    (
+        QuotedPrintableError::LineTooLong,
+        "A line length in the quoted-printed input exceeded 76 bytes",
+    ),
+    (
+        QuotedPrintableError::IncompleteHexOctet,
+        "A '=' followed by only one character was found in the input",
+    ),
+    (
+        QuotedPrintableError::InvalidHexOctet,
+        "A '=' followed by non-hex characters was found in the input",
+    ),
+    (
+        QuotedPrintableError::LowercaseHexOctet,
+        "A '=' was followed by lowercase hex characters",
+    ),
+];
+
+// The text of a fault, and of the error that holds it.
+fn check_message(
+    rt: &impl Abort,
+    alloc: Global,
+    fault: QuotedPrintableError,
+    want: &str,
+) -> Result<(), Fail> {
+    let text = fault.to_string(alloc)?;
+    same(rt, &text.as_str(), &want, &want);
+    let text = QpError::Quoted(fault).to_string(alloc)?;
+    same(rt, &text.as_str(), &want, &want);
     Ok(())
 }
 
 #[test]
 fn shows_errors(rt: HostRuntime) -> Result<(), Fail> {
-    let rows = [
-        (
-            QuotedPrintableError::InvalidByte,
-            "A unallowed byte was found in the quoted-printable input",
-        ),
-        (
-            QuotedPrintableError::LineTooLong,
-            "A line length in the quoted-printed input exceeded 76 bytes",
-        ),
-        (
-            QuotedPrintableError::IncompleteHexOctet,
-            "A '=' followed by only one character was found in the input",
-        ),
-        (
-            QuotedPrintableError::InvalidHexOctet,
-            "A '=' followed by non-hex characters was found in the input",
-        ),
-        (
-            QuotedPrintableError::LowercaseHexOctet,
-            "A '=' was followed by lowercase hex characters",
-        ),
-    ];
-    for (fault, want) in rows {
-        let text = fault.to_string(rt.alloc())?;
-        assert_eq!(rt; text.as_str(), want);
-        let text = QpError::Quoted(fault).to_string(rt.alloc())?;
-        assert_eq!(rt; text.as_str(), want);
+    for row in &MESSAGES {
+        check_message(&rt, rt.alloc(), row.0.clone()?, row.1)?;
     }
     let text = QpError::Memory.to_string(rt.alloc())?;
-    assert_eq!(rt; text.as_str(), "no memory");
+    same(&rt, &text.as_str(), &"no memory", &"memory");
     Ok(())
 }
 
@@ -534,26 +618,38 @@ fn reads_as_slow(alloc: Global, text: &[u8], limit: usize) -> Result<bool, Alloc
     Ok(robust == Ok(value) && strict == want)
 }
 
+// Decodes a text by both, cut at each place.
+fn check_cuts(rt: &impl Abort, alloc: Global, text: &[u8]) -> Result<(), Fail> {
+    for end in 0..=text.len() {
+        let cut = &text[..end.min(text.len())];
+        same(rt, &reads_as_slow(alloc, cut, 40)?, &true, &cut);
+    }
+    Ok(())
+}
+
 #[test]
 fn decodes_as_the_slow_decoders(rt: HostRuntime) -> Result<(), Fail> {
     for seed in 0..300u32 {
         let kinds = [2, 9, 12];
         let text = mixed_pieces(rt.alloc(), 14, kinds[(seed % 3) as usize], seed)?;
-        for end in 0..=text.len() {
-            let cut = &text[..end.min(text.len())];
-            assert!(rt; reads_as_slow(rt.alloc(), cut, 40)?);
-        }
+        check_cuts(&rt, rt.alloc(), &text)?;
     }
+    Ok(())
+}
+
+// Decodes a line that begins with so many letters.
+fn check_long(rt: &impl Abort, alloc: Global, len: usize) -> Result<(), Fail> {
+    let mut text = vec![in alloc; b'a'; len]?;
+    text.extend_from_slice(b"=4D and more =\r\nthan that\r\n")?;
+    same(rt, &reads_as_slow(alloc, &text, 5000)?, &true, &len);
+    same(rt, &reads_as_slow(alloc, &text, 4080)?, &true, &len);
     Ok(())
 }
 
 #[test]
 fn decodes_a_line_longer_than_the_room(rt: HostRuntime) -> Result<(), Fail> {
     for len in 4060..4110usize {
-        let mut text = vec![in rt.alloc(); b'a'; len]?;
-        text.extend_from_slice(b"=4D and more =\r\nthan that\r\n")?;
-        assert!(rt; reads_as_slow(rt.alloc(), &text, 5000)?);
-        assert!(rt; reads_as_slow(rt.alloc(), &text, 4080)?);
+        check_long(&rt, rt.alloc(), len)?;
     }
     Ok(())
 }
@@ -584,16 +680,23 @@ fn encodes_as_slow(
     Ok(same && encoded.as_bytes() == want.as_slice())
 }
 
+// Encodes an input, cut at each place, in both modes.
+fn check_encoded(rt: &impl Abort, alloc: Global, input: &[u8], limit: usize) -> Result<(), Fail>
+    requires { 6 ≤ limit }
+{
+    for end in 0..=input.len() {
+        let cut = &input[..end.min(input.len())];
+        same(rt, &encodes_as_slow(alloc, cut, limit, true)?, &true, &cut);
+        same(rt, &encodes_as_slow(alloc, cut, limit, false)?, &true, &cut);
+    }
+    Ok(())
+}
+
 #[test]
 fn encodes_as_the_slow_encoder(rt: HostRuntime) -> Result<(), Fail> {
     for seed in 0..300u32 {
         let input = mixed_pieces(rt.alloc(), 14, 12, seed)?;
-        let limit = 6 + (seed % 75) as usize;
-        for end in 0..=input.len() {
-            let cut = &input[..end.min(input.len())];
-            assert!(rt; encodes_as_slow(rt.alloc(), cut, limit, true)?);
-            assert!(rt; encodes_as_slow(rt.alloc(), cut, limit, false)?);
-        }
+        check_encoded(&rt, rt.alloc(), &input, 6 + (seed % 75) as usize)?;
     }
     Ok(())
 }
