@@ -1,5 +1,7 @@
--- Octets within a line of an input, as an encoder writes many of them at once (RFC 2045 section 6.7, rules 1 and 2).
-use Rattle.std.specs.Prelude.{ℕ, ◌+◌, Bool, true, false, ◌==◌, ◌&&◌, not, if◌then◌else◌, List, [], ◌∷◌, ◌++◌, zero, suc, map, take, drop}
+-- Octets within a line of an input, as an encoder writes many of them at once (RFC 2045 section
+-- 6.7, rules 1 and 2).
+use Rattle.std.specs.Prelude.{ℕ, ◌+◌, Bool, true, false, ◌==◌, ◌&&◌, not, if◌then◌else◌, List, []}
+use Rattle.std.specs.Prelude.{◌∷◌, ◌++◌, zero, suc, map, take, drop}
 use Rattle.std.specs.Simd.Lanes.{mask_l}
 use Rattle.qp.specs.Items.{Item, plain, escaped, item_text, is_blank, may_stand_within, ends_line}
 
@@ -24,8 +26,11 @@ escapes_of text = mask_l (map needs_escape (take 16 text))
 unfoldable pub goes_within : ℕ → List ℕ → Bool
 goes_within zero text = true
 goes_within (suc n) [] = true
-goes_within (suc n) (b ∷ rest) = not (b == 13) && (not (is_blank b && ends_line rest) && goes_within n rest)
+goes_within (suc n) (b ∷ rest) =
+    not (b == 13) && (not (is_blank b && ends_line rest) && goes_within n rest)
 
 -- four octets of each of three lists, and `=` four times
 abbrev pub group_of : ℕ → List ℕ → List ℕ → List ℕ → List ℕ
-group_of at octets high low = take 4 (drop at octets) ++ take 4 (drop at high) ++ take 4 (drop at low) ++ 61 ∷ 61 ∷ 61 ∷ 61 ∷ []
+group_of at octets high low =
+    take 4 (drop at octets) ++ take 4 (drop at high) ++ take 4 (drop at low)
+    ++ 61 ∷ 61 ∷ 61 ∷ 61 ∷ []

@@ -1,4 +1,5 @@
--- Hexadecimal digits of either case, and soft line breaks, as a decoder looks for them (RFC 2045 section 6.7, rules 1 and 5).
+-- Hexadecimal digits of either case, and soft line breaks, as a decoder looks for them (RFC 2045
+-- section 6.7, rules 1 and 5).
 use Rattle.std.specs.Prelude.{ℕ, Bool, false, ◌==◌, ◌&&◌, if◌then◌else◌, List, [], ◌∷◌}
 use Rattle.std.specs.Char.{digit_value, is_digit}
 

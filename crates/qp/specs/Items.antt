@@ -1,10 +1,12 @@
 -- The items of encoded text: what is never cut by a line break (RFC 2045 section 6.7).
-use Rattle.std.specs.Prelude.{ℕ, ◌+◌, ◌/◌, ◌%◌, Bool, true, false, ◌==◌, ◌||◌, ◌&&◌, not, nat_le, nat_lt, if◌then◌else◌, List, [], ◌∷◌, ◌++◌, get_or, take}
+use Rattle.std.specs.Prelude.{ℕ, ◌+◌, ◌/◌, ◌%◌, Bool, true, false, ◌==◌, ◌||◌, ◌&&◌, not, nat_le}
+use Rattle.std.specs.Prelude.{nat_lt, if◌then◌else◌, List, [], ◌∷◌, ◌++◌, get_or, take}
 use Rattle.std.specs.List.{flat_map}
 use Rattle.qp.specs.declared.InputMode.{InputMode}
 use Rattle.qp.specs.declared.InputMode.TheVariants.{Text, Binary}
 
--- a line break of the text (RFC 2045 6.7, rule 4), an octet that stands for itself (rule 2), or an octet written as `=` and two digits (rule 1)
+-- a line break of the text (RFC 2045 6.7, rule 4), an octet that stands for itself (rule 2), or an
+-- octet written as `=` and two digits (rule 1)
 pub data Item : Type 0 where
   hard_break : Item
   plain : ℕ → Item
@@ -53,9 +55,11 @@ ends_blank [] = false
 ends_blank (b ∷ []) = is_blank b
 ends_blank (b ∷ c ∷ rest) = ends_blank (c ∷ rest)
 
--- an octet, by what follows it: it stands for itself, but no tab or space does at the end of a line (RFC 2045 6.7, rules 2 and 3)
+-- an octet, by what follows it: it stands for itself, but no tab or space does at the end of a line
+-- (RFC 2045 6.7, rules 2 and 3)
 abbrev pub octet_item : ℕ → List ℕ → Item
-octet_item b rest = if may_stand_within b && not (is_blank b && ends_line rest) then plain b else escaped b
+octet_item b rest =
+    if may_stand_within b && not (is_blank b && ends_line rest) then plain b else escaped b
 
 -- CR LF pairs are line breaks
 abbrev pub keeps_breaks : InputMode → Bool
@@ -70,12 +74,17 @@ pair_items mode = if keeps_breaks mode then hard_break ∷ [] else escaped 13 �
 unfoldable pub items : InputMode → List ℕ → List Item
 items mode [] = []
 items mode (b ∷ []) = octet_item b [] ∷ []
-items mode (b ∷ c ∷ rest) = if begins_break (b ∷ c ∷ rest) then pair_items mode ++ items mode rest else octet_item b (c ∷ rest) ∷ items mode (c ∷ rest)
+items mode (b ∷ c ∷ rest) =
+    if begins_break (b ∷ c ∷ rest) then pair_items mode ++ items mode rest
+    else octet_item b (c ∷ rest) ∷ items mode (c ∷ rest)
 
 -- what an entry tells: as many of its octets as the fourth says
 abbrev pub entry_text : List ℕ → List ℕ
 entry_text entry = take (get_or entry 3 0) entry
 
--- the entry of an octet: itself where it stands for itself, or `=` and its two digits, and as the fourth how many octets that are
+-- the entry of an octet: itself where it stands for itself, or `=` and its two digits, and as the
+-- fourth how many octets that are
 abbrev pub octet_entry : Bool → ℕ → List ℕ
-octet_entry stands b = (if stands then b else 61) ∷ hex_digit (b / 16) ∷ hex_digit (b % 16) ∷ (if stands then 1 else 3) ∷ []
+octet_entry stands b =
+    (if stands then b else 61) ∷ hex_digit (b / 16) ∷ hex_digit (b % 16)
+    ∷ (if stands then 1 else 3) ∷ []

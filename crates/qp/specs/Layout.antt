@@ -1,5 +1,6 @@
 -- Encoded text laid out in lines (RFC 2045 section 6.7, rules 4 and 5).
-use Rattle.std.specs.Prelude.{ℕ, ◌+◌, Bool, true, false, ◌==◌, ◌||◌, ◌&&◌, not, nat_lt, if◌then◌else◌, List, [], ◌∷◌, ◌++◌, length}
+use Rattle.std.specs.Prelude.{ℕ, ◌+◌, Bool, true, false, ◌==◌, ◌||◌, ◌&&◌, not, nat_lt}
+use Rattle.std.specs.Prelude.{if◌then◌else◌, List, [], ◌∷◌, ◌++◌, length}
 use Rattle.std.specs.List.{onto_first}
 use Rattle.qp.specs.Items.{Item, hard_break, plain, escaped, item_text}
 
@@ -17,7 +18,9 @@ goes_on (item ∷ rest) = not (is_hard_break item)
 abbrev pub width : Item → ℕ
 width item = length (item_text item)
 
--- a soft break stands before an item of `wide` bytes on a line that has `used`: the line would pass the limit, or would reach it with a further item to come, which leaves no room for the `=` of a soft break
+-- a soft break stands before an item of `wide` bytes on a line that has `used`: the line would pass
+-- the limit, or would reach it with a further item to come, which leaves no room for the `=` of a
+-- soft break
 abbrev pub breaks_before : ℕ → ℕ → ℕ → Bool → Bool
 breaks_before limit used wide more = nat_lt limit (used + wide) || ((used + wide == limit) && more)
 
@@ -30,7 +33,8 @@ unfoldable pub laid_out_from : ℕ → ℕ → List Item → List ℕ
 laid_out_from limit used [] = []
 laid_out_from limit used (item ∷ rest) =
     if is_hard_break item then item_text item ++ laid_out_from limit 0 rest
-    else if breaks_before limit used (width item) (goes_on rest) then soft_break ++ item_text item ++ laid_out_from limit (width item) rest
+    else if breaks_before limit used (width item) (goes_on rest)
+    then soft_break ++ item_text item ++ laid_out_from limit (width item) rest
     else item_text item ++ laid_out_from limit (used + width item) rest
 
 -- items in lines of at most `limit` bytes
@@ -41,4 +45,6 @@ laid_out limit list = laid_out_from limit 0 list
 unfoldable pub broken_lines : List ℕ → List (List ℕ)
 broken_lines [] = [] ∷ []
 broken_lines (b ∷ []) = (b ∷ []) ∷ []
-broken_lines (b ∷ c ∷ rest) = if (b == 13) && (c == 10) then [] ∷ broken_lines rest else onto_first b (broken_lines (c ∷ rest))
+broken_lines (b ∷ c ∷ rest) =
+    if (b == 13) && (c == 10) then [] ∷ broken_lines rest
+    else onto_first b (broken_lines (c ∷ rest))

@@ -1,5 +1,6 @@
 -- What one line of quoted-printable text says (RFC 2045 section 6.7).
-use Rattle.std.specs.Prelude.{ℕ, ◌+◌, ◌*◌, Bool, true, false, ◌==◌, ◌&&◌, not, if◌then◌else◌, List, [], ◌∷◌}
+use Rattle.std.specs.Prelude.{ℕ, ◌+◌, ◌*◌, Bool, true, false, ◌==◌, ◌&&◌, not, if◌then◌else◌, List}
+use Rattle.std.specs.Prelude.{[], ◌∷◌}
 use Rattle.std.specs.List.{flat_map, list_any}
 use Rattle.std.specs.Char.{digit_value, is_digit}
 use Rattle.qp.specs.Text.{is_text_octet, trimmed}
@@ -8,7 +9,10 @@ use Rattle.qp.specs.Text.{is_text_octet, trimmed}
 abbrev pub is_literal : ℕ → Bool
 is_literal b = is_text_octet b && not (b == 61)
 
--- what is read at one place of a line: an octet that stands for itself (RFC 2045 6.7, rule 2), `=` and the two octets after it (rule 1), `=` and the one octet that the line still has (the NOTE on illegal substrings, case 3, at the end of each line here), or `=` alone at the line's end (rule 5)
+-- what is read at one place of a line: an octet that stands for itself (RFC 2045 6.7, rule 2), `=`
+-- and the two octets after it (rule 1), `=` and the one octet that the line still has (the NOTE on
+-- illegal substrings, case 3, at the end of each line here), or `=` alone at the line's end (rule
+-- 5)
 pub data Part : Type 0 where
   literal : ℕ → Part
   escape : ℕ → ℕ → Part
@@ -20,13 +24,17 @@ unfoldable pub parts : List ℕ → List Part
 parts [] = []
 parts (b ∷ []) = (if b == 61 then soft_break else literal b) ∷ []
 parts (b ∷ u ∷ []) = if b == 61 then cut_escape u ∷ [] else literal b ∷ parts (u ∷ [])
-parts (b ∷ u ∷ v ∷ rest) = if b == 61 then escape u v ∷ parts rest else literal b ∷ parts (u ∷ v ∷ rest)
+parts (b ∷ u ∷ v ∷ rest) =
+    if b == 61 then escape u v ∷ parts rest else literal b ∷ parts (u ∷ v ∷ rest)
 
--- the octet that two hexadecimal digits say, high digit first (RFC 2045 6.7, rule 1), in lower case too (the NOTE on illegal substrings, case 1)
+-- the octet that two hexadecimal digits say, high digit first (RFC 2045 6.7, rule 1), in lower case
+-- too (the NOTE on illegal substrings, case 1)
 abbrev pub hex_octet : ℕ → ℕ → ℕ
 hex_octet u v = digit_value u * 16 + digit_value v
 
--- `=` and two octets: the octet that they say, or where one is no hexadecimal digit all three as they stand (RFC 2045 6.7; the NOTE on illegal substrings, case 2, keeps `=` and the octet behind it and reads on there)
+-- `=` and two octets: the octet that they say, or where one is no hexadecimal digit all three as
+-- they stand (RFC 2045 6.7; the NOTE on illegal substrings, case 2, keeps `=` and the octet behind
+-- it and reads on there)
 abbrev pub escape_value : ℕ → ℕ → List ℕ
 escape_value u v = if is_digit u 16 && is_digit v 16 then hex_octet u v ∷ [] else 61 ∷ u ∷ v ∷ []
 

@@ -1,7 +1,9 @@
 -- The texts of the errors.
 use Rattle.std.specs.Prelude.{ℕ, List, codes}
 use Rattle.qp.specs.declared.QuotedPrintableError.{QuotedPrintableError}
-use Rattle.qp.specs.declared.QuotedPrintableError.TheVariants.{InvalidByte, LineTooLong, IncompleteHexOctet, InvalidHexOctet, LowercaseHexOctet}
+use Rattle.qp.specs.declared.QuotedPrintableError.TheVariants.{InvalidByte, LineTooLong}
+use Rattle.qp.specs.declared.QuotedPrintableError.TheVariants.{IncompleteHexOctet, InvalidHexOctet}
+use Rattle.qp.specs.declared.QuotedPrintableError.TheVariants.{LowercaseHexOctet}
 use Rattle.qp.specs.declared.QpError.{QpError}
 use Rattle.qp.specs.declared.QpError.TheVariants.{Memory, Quoted}
 

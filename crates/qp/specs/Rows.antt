@@ -16,8 +16,10 @@ row_text row = items_text row.here ++ (if row.soft then 61 ∷ [] else [])
 unfoldable pub rows_items : List Row → List Item
 rows_items [] = []
 rows_items (row ∷ []) = row.here
-rows_items (row ∷ next ∷ rest) = row.here ++ (if row.soft then [] else hard_break ∷ []) ++ rows_items (next ∷ rest)
+rows_items (row ∷ next ∷ rest) =
+    row.here ++ (if row.soft then [] else hard_break ∷ []) ++ rows_items (next ∷ rest)
 
 -- the lines of a text are rows of these items, so that none of them is cut
 abbrev pub StandsInRows : List Item → List ℕ → Type 0
-StandsInRows list text = (rows : List Row) × (broken_lines text ≡ map row_text rows) × (rows_items rows ≡ list)
+StandsInRows list text =
+    (rows : List Row) × (broken_lines text ≡ map row_text rows) × (rows_items rows ≡ list)

@@ -6,7 +6,9 @@ use Rattle.qp.specs.declared.InputMode.TheVariants.{Text, Binary}
 use Rattle.qp.specs.declared.ParseMode.{ParseMode}
 use Rattle.qp.specs.declared.ParseMode.TheVariants.{Strict, Robust}
 use Rattle.qp.specs.declared.QuotedPrintableError.{QuotedPrintableError}
-use Rattle.qp.specs.declared.QuotedPrintableError.TheVariants.{InvalidByte, LineTooLong, IncompleteHexOctet, InvalidHexOctet, LowercaseHexOctet}
+use Rattle.qp.specs.declared.QuotedPrintableError.TheVariants.{InvalidByte, LineTooLong}
+use Rattle.qp.specs.declared.QuotedPrintableError.TheVariants.{IncompleteHexOctet, InvalidHexOctet}
+use Rattle.qp.specs.declared.QuotedPrintableError.TheVariants.{LowercaseHexOctet}
 
 -- how many bytes a line may have
 abbrev pub line_limit : Options → ℕ

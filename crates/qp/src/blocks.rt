@@ -1,6 +1,7 @@
 //! Encoding up to sixteen bytes of a line at once.
 
-ghost use Rattle.std.specs.Prelude.{◌≡◌, ℕ, List, ◌+◌, ◌-◌, ◌<◌, ◌≤◌, ◌++◌, length, get_or, take, drop, nat_lt, nat_le, ◌&&◌, ◌||◌, true, false, if◌then◌else◌};
+ghost use Rattle.std.specs.Prelude.{◌≡◌, ◌+◌, ◌-◌, ◌<◌, ◌≤◌, ◌++◌, length, take, drop};
+ghost use Rattle.std.specs.Prelude.{nat_lt, nat_le, ◌&&◌, ◌||◌, true, false, if◌then◌else◌};
 ghost use Rattle.qp.specs.declared.InputMode.{InputMode};
 ghost use Rattle.qp.specs.Blocks.{escapes_of, goes_within, spread};
 ghost use Rattle.qp.specs.Items.{begins_break, items, keeps_breaks};

@@ -1,11 +1,14 @@
 //! Encoding in one pass: what needs no escape and no line break is copied in runs.
 
-ghost use Rattle.std.specs.Prelude.{◌≡◌, ◌≢◌, ℕ, ◌+◌, ◌-◌, ◌<◌, ◌≤◌, [], ◌∷◌, ◌++◌, length, get_or, ◌/◌, ◌%◌, ◌==◌, ◌&&◌, ◌||◌, true, false, not, if◌then◌else◌, IfOk, map, take, drop, Ok};
+ghost use Rattle.std.specs.Prelude.{◌≡◌, ◌+◌, ◌-◌, ◌<◌, ◌≤◌, ◌∷◌, ◌++◌, length, get_or, ◌/◌};
+ghost use Rattle.std.specs.Prelude.{◌%◌, ◌==◌, ◌&&◌, ◌||◌, true, false, not, if◌then◌else◌, IfOk};
+ghost use Rattle.std.specs.Prelude.{map, take, drop, Ok};
 ghost use Rattle.std.specs.Str.{IsUtf8};
 ghost use Rattle.qp.specs.Strict.{strict};
-ghost use Rattle.std.specs.List.{list_all};
 ghost use Rattle.qp.specs.declared.InputMode.{InputMode};
-ghost use Rattle.qp.specs.Items.{plain, items, octet_item, is_blank, ends_blank, begins_break, ends_line, hex_digit, keeps_breaks, may_stand_within, entry_text, octet_entry};
+ghost use Rattle.qp.specs.Items.{plain, items, octet_item, is_blank, ends_blank, begins_break};
+ghost use Rattle.qp.specs.Items.{ends_line, hex_digit, keeps_breaks, may_stand_within, entry_text};
+ghost use Rattle.qp.specs.Items.{octet_entry};
 ghost use Rattle.qp.specs.Layout.{laid_out, laid_out_from, breaks_before, soft_break, goes_on};
 
 use super::InputMode;

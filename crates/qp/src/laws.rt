@@ -1,7 +1,8 @@
 //! Laws of what quoted-printable text stands for. Each function's contract is a law; the function
 //! does nothing, or makes the one call that the law is about.
 
-ghost use Rattle.std.specs.Prelude.{◌≡◌, ◌≢◌, ◌↔◌, ℕ, ◌≤◌, ◌<◌, List, ◌∷◌, ◌++◌, length, All, Ok, Some, IfOk, IsTrue};
+ghost use Rattle.std.specs.Prelude.{◌≡◌, ◌≢◌, ◌↔◌, ℕ, ◌≤◌, ◌<◌, List, ◌∷◌, ◌++◌, length, All, Ok};
+ghost use Rattle.std.specs.Prelude.{Some, IfOk, IsTrue};
 ghost use Rattle.std.specs.Ordering.{nat_cmp};
 ghost use Rattle.qp.specs.Text.{kept};
 ghost use Rattle.qp.specs.Line.{line_value};

@@ -1,6 +1,7 @@
 //! Robust decoding: nothing of the input is refused.
 
-ghost use Rattle.std.specs.Prelude.{◌≡◌, ◌+◌, ◌<◌, ◌↔◌, [], ◌∷◌, ◌++◌, ◌≤◌, true, length, get_or, take, drop, ◌==◌, if◌then◌else◌, not, ◌||◌, IfNone, IfSome, IfOk};
+ghost use Rattle.std.specs.Prelude.{◌≡◌, ◌+◌, ◌<◌, [], ◌∷◌, ◌++◌, ◌≤◌, true, length, get_or, take};
+ghost use Rattle.std.specs.Prelude.{drop, ◌==◌, if◌then◌else◌, not, ◌||◌, IfNone, IfSome, IfOk};
 ghost use Rattle.std.specs.List.{list_all};
 ghost use Rattle.std.specs.Char.{is_digit};
 ghost use Rattle.qp.specs.Items.{may_stand_within};

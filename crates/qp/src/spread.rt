@@ -1,6 +1,7 @@
 //! Sixteen bytes at once, each as itself or as `=` and its two digits.
 
-ghost use Rattle.std.specs.Prelude.{◌≡◌, ℕ, List, ◌+◌, ◌-◌, ◌/◌, ◌%◌, ◌<◌, ◌≤◌, ◌==◌, true, not, length, take, drop, map, ◌*◌, ◌++◌};
+ghost use Rattle.std.specs.Prelude.{◌≡◌, ℕ, List, ◌+◌, ◌-◌, ◌/◌, ◌%◌, ◌<◌, ◌≤◌, ◌==◌, true, not};
+ghost use Rattle.std.specs.Prelude.{length, take, drop, map, ◌*◌, ◌++◌};
 ghost use Rattle.std.specs.List.{list_all};
 ghost use Rattle.std.specs.Simd.Lanes.{mask_l};
 ghost use Rattle.qp.specs.Items.{hex_digit};

@@ -1,11 +1,13 @@
 //! The faults that strict decoding refuses.
 
-ghost use Rattle.std.specs.Prelude.{◌≡◌, ◌<◌, ◌≤◌, ◌+◌, [], ◌∷◌, ◌==◌, ◌&&◌, ◌||◌, not, if◌then◌else◌, length, IfOk, IfErr, IfSome, IfNone, Some, None};
+ghost use Rattle.std.specs.Prelude.{◌≡◌, ◌<◌, ◌≤◌, ◌+◌, [], ◌∷◌, ◌==◌, ◌&&◌, ◌||◌, not};
+ghost use Rattle.std.specs.Prelude.{if◌then◌else◌, length, IfOk, IfErr, IfSome, IfNone, Some, None};
 ghost use Rattle.std.specs.Char.{is_digit};
 ghost use Rattle.qp.specs.Text.{is_text_octet, is_line_padding, trimmed, lines};
 ghost use Rattle.qp.specs.Line.{escape, parts, ends_soft, is_soft};
 ghost use Rattle.qp.specs.Items.{begins_break};
-ghost use Rattle.qp.specs.Strict.{has_invalid_byte, first_fault, part_fault, is_lowercase_digit, line_fault, lines_fault, without_empty_end, strict_fault};
+ghost use Rattle.qp.specs.Strict.{has_invalid_byte, first_fault, part_fault, is_lowercase_digit};
+ghost use Rattle.qp.specs.Strict.{line_fault, lines_fault, without_empty_end, strict_fault};
 
 use super::QuotedPrintableError;
 use crate::encoder::begins_break;
