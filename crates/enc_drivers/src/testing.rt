@@ -10,6 +10,7 @@ use crate::{Item, Mode};
 use enc_handles::entry::entry_of;
 use enc_handles::results::DecoderResult;
 use std::alloc::Global;
+use std::fmt::Debug;
 use std::process::Abort;
 use std::test::Fail;
 
@@ -40,13 +41,37 @@ fn step_of(want: Want) -> Step {
 // Bytes, and what is wanted before the end and at the end.
 pub(crate) type Front = (&'static [u8], Want, Want);
 
+// Compares two values, of the row of this name. Proved once, so that a test that calls it costs
+// little.
+pub(crate) fn same<T: PartialEq + Debug, N: Debug>(rt: &impl Abort, got: &T, want: &T, name: &N) {
+    assert_eq!(rt; *got, *want, "{name:?}");
+}
+
+// Compares what a code tells of a front in a mode, before the end and at the end.
+pub(crate) fn check_step<C: Code>(
+    rt: &impl Abort,
+    code: &C,
+    mode: Mode,
+    front: &[u8],
+    before: Step,
+    at_end: Step,
+) {
+    assert!(rt; !front.is_empty() && front.len() <= 4);
+    same(rt, &code.step(mode, front, false), &before, &front);
+    same(rt, &code.step(mode, front, true), &at_end, &front);
+}
+
 pub(crate) fn check_steps<C: Code>(rt: &impl Abort, code: &C, rows: &[Front]) {
-    for (front, before, at_end) in rows {
-        assert!(rt; !front.is_empty() && front.len() <= 4);
-        let going = code.step(Mode::Plain, front, false);
-        assert_eq!(rt; going, step_of(*before), "{front:?}");
-        let last = code.step(Mode::Plain, front, true);
-        assert_eq!(rt; last, step_of(*at_end), "{front:?} at the end");
+    for row in rows {
+        let (front, before, at_end) = *row;
+        check_step(
+            rt,
+            code,
+            Mode::Plain,
+            front,
+            step_of(before),
+            step_of(at_end),
+        );
     }
 }
 
@@ -167,32 +192,53 @@ fn decode_piece<C: Code>(
 // Bytes, their text with U+FFFD for malformed units, and the lengths of these.
 pub(crate) type Text = (&'static [u8], &'static str, &'static [u8]);
 
-// Decodes a row in two pieces.
-pub(crate) fn check_cut<C: Code + Drop>(
+// Decodes bytes in two pieces, each to its end, by a driver that holds nothing.
+fn decode_two<C: Code>(
+    rt: &impl Abort,
+    driver: &mut GeneralDriver<C>,
+    pieces: (&[u8], &[u8]),
+    room: usize,
+    text: &mut Vec<u8>,
+    lengths: &mut Vec<u8>,
+) -> Result<(), Fail> {
+    let first = decode_piece(driver, pieces.0, false, room, text, lengths)?;
+    same(rt, &first, &true, &pieces);
+    let second = decode_piece(driver, pieces.1, true, room, text, lengths)?;
+    same(rt, &second, &true, &pieces);
+    Ok(())
+}
+
+// Decodes a row in two pieces, in a stream of its own.
+pub(crate) fn check_cut<C: Code>(
+    rt: &impl Abort,
+    alloc: Global,
+    driver: &mut GeneralDriver<C>,
+    pieces: (&[u8], &[u8]),
+    wanted: &str,
+    wanted_lengths: &[u8],
+) -> Result<(), Fail> {
+    let mut text = Vec::new(alloc);
+    let mut lengths = Vec::new(alloc);
+    decode_two(rt, driver, pieces, 5, &mut text, &mut lengths)?;
+    same(rt, &text.as_slice(), &wanted.as_bytes(), &pieces);
+    same(rt, &lengths.as_slice(), &wanted_lengths, &pieces);
+    Ok(())
+}
+
+// Decodes each row in two pieces, at every cut, by one driver, whose code has no modes.
+pub(crate) fn check_cuts<C: Code + Drop>(
     rt: &impl Abort,
     alloc: Global,
     code: C,
-    row: &Text,
-    cut: usize,
+    rows: &[Text],
 ) -> Result<(), Fail> {
-    let (bytes, wanted, wanted_lengths) = row;
     let mut driver = GeneralDriver::new(code);
-    let mut text = Vec::new(alloc);
-    let mut lengths = Vec::new(alloc);
-    assert!(rt; cut <= bytes.len());
-    let first = decode_piece(
-        &mut driver,
-        &bytes[..cut],
-        false,
-        5,
-        &mut text,
-        &mut lengths,
-    )?;
-    assert!(rt; first, "{bytes:?} at {cut}");
-    let second = decode_piece(&mut driver, &bytes[cut..], true, 5, &mut text, &mut lengths)?;
-    assert!(rt; second, "{bytes:?} at {cut}");
-    assert_eq!(rt; text.as_slice(), wanted.as_bytes(), "{bytes:?} at {cut}");
-    assert_eq!(rt; lengths.as_slice(), *wanted_lengths, "{bytes:?} at {cut}");
+    for row in rows {
+        let (bytes, text, lengths) = *row;
+        for cut in 0..=bytes.len() {
+            check_cut(rt, alloc, &mut driver, bytes.split_at(cut), text, lengths)?;
+        }
+    }
     Ok(())
 }
 
@@ -229,8 +275,23 @@ fn unit_by_unit<C: Code>(
     Ok(text)
 }
 
-// Compares a driver with the steps of its code: a text in two pieces, at every cut and in several
-// rooms.
+// Compares a driver with the steps of its code, which say what is wanted: a text in two pieces.
+fn check_pieces<C: Code>(
+    rt: &impl Abort,
+    alloc: Global,
+    driver: &mut GeneralDriver<C>,
+    pieces: (&[u8], &[u8]),
+    room: usize,
+    wanted: &[u8],
+) -> Result<(), Fail> {
+    let mut text = Vec::new(alloc);
+    let mut lengths = Vec::new(alloc);
+    decode_two(rt, driver, pieces, room, &mut text, &mut lengths)?;
+    same(rt, &text.as_slice(), &wanted, &pieces);
+    Ok(())
+}
+
+// The same at every cut and in several rooms.
 pub(crate) fn check_by_units<C: Code + Drop>(
     rt: &impl Abort,
     alloc: Global,
@@ -243,18 +304,8 @@ pub(crate) fn check_by_units<C: Code + Drop>(
     for room in 4..40 {
         for cut in 0..=bytes.len() {
             let wanted = unit_by_unit(alloc, same, &mut mode, bytes)?;
-            let mut text = Vec::new(alloc);
-            let mut lengths = Vec::new(alloc);
-            let (one, two) = bytes.split_at(cut);
-            let first = decode_piece(&mut driver, one, false, room, &mut text, &mut lengths)?;
-            assert!(rt; first, "{bytes:?} at {cut} into {room}");
-            let second = decode_piece(&mut driver, two, true, room, &mut text, &mut lengths)?;
-            assert!(rt; second, "{bytes:?} at {cut} into {room}");
-            assert_eq!(rt;
-                text.as_slice(),
-                wanted.as_bytes(),
-                "{bytes:?} at {cut} into {room}"
-            );
+            let pieces = bytes.split_at(cut);
+            check_pieces(rt, alloc, &mut driver, pieces, room, wanted.as_bytes())?;
         }
     }
     Ok(())

@@ -6,7 +6,7 @@ ghost use Rattle.std.proofs.Common.{rules};
 use crate::codes::gb18030::Gb18030;
 use crate::lookup::Lookup;
 use crate::testing::Want::*;
-use crate::testing::{Alphas, Front, Nothing, OneRow, Text, check_cut, check_steps};
+use crate::testing::{Alphas, Front, Nothing, OneRow, Text, check_cuts, check_steps};
 use std::test::Fail;
 
 // An index with U+4E04 at place 1.
@@ -42,86 +42,66 @@ impl Lookup for Ends {
     }
 }
 
+const NONE: [Front; 17] = [
+    (b"A", One('A', 1), One('A', 1)),
+    (b"\x80\x81", One('\u{20ac}', 1), One('\u{20ac}', 1)),
+    (b"\xff", Bad(1), Bad(1)),
+    (b"\x81", More, Bad(1)),
+    (b"\xfe", More, Bad(1)),
+    (b"\x81A", Bad(1), Bad(1)),
+    (b"\x81\x3a", Bad(1), Bad(1)),
+    (b"\x81\x7f", Bad(1), Bad(1)),
+    (b"\x81\x80", Bad(2), Bad(2)),
+    (b"\x81\xff", Bad(2), Bad(2)),
+    (b"\x81\x30", More, Bad(2)),
+    (b"\x81\x30\x80", Bad(1), Bad(1)),
+    (b"\x81\x30\xff", Bad(1), Bad(1)),
+    (b"\x81\x39\xfe", More, Bad(3)),
+    (b"\x81\x30\x81\x2f", Bad(1), Bad(1)),
+    (b"\x81\x30\x81\x3a", Bad(1), Bad(1)),
+    (b"\xfe\x39\xfe\x39", Bad(4), Bad(4)),
+];
+
+const GREEK: [Front; 6] = [
+    (b"\x81\x40", One('\u{3b1}', 2), One('\u{3b1}', 2)),
+    (b"\x81\x7e", One('\u{3b1}', 2), One('\u{3b1}', 2)),
+    (b"\x81\x7f", Bad(1), Bad(1)),
+    (b"\xfe\x80", One('\u{3b1}', 2), One('\u{3b1}', 2)),
+    (b"\xfe\xfe", One('\u{3b1}', 2), One('\u{3b1}', 2)),
+    (b"\x81\x30\x81\x30", Bad(4), Bad(4)),
+];
+
 #[test]
 fn steps(rt: HostRuntime) {
-    let none: [Front; 17] = [
-        (b"A", One('A', 1), One('A', 1)),
-        (b"\x80\x81", One('\u{20ac}', 1), One('\u{20ac}', 1)),
-        (b"\xff", Bad(1), Bad(1)),
-        (b"\x81", More, Bad(1)),
-        (b"\xfe", More, Bad(1)),
-        (b"\x81A", Bad(1), Bad(1)),
-        (b"\x81\x3a", Bad(1), Bad(1)),
-        (b"\x81\x7f", Bad(1), Bad(1)),
-        (b"\x81\x80", Bad(2), Bad(2)),
-        (b"\x81\xff", Bad(2), Bad(2)),
-        (b"\x81\x30", More, Bad(2)),
-        (b"\x81\x30\x80", Bad(1), Bad(1)),
-        (b"\x81\x30\xff", Bad(1), Bad(1)),
-        (b"\x81\x39\xfe", More, Bad(3)),
-        (b"\x81\x30\x81\x2f", Bad(1), Bad(1)),
-        (b"\x81\x30\x81\x3a", Bad(1), Bad(1)),
-        (b"\xfe\x39\xfe\x39", Bad(4), Bad(4)),
-    ];
-    check_steps(&rt, &Gb18030::new(&Nothing, &Nothing, false), &none);
-    check_steps(&rt, &Gb18030::new(&Nothing, &Nothing, true), &none);
-    let greek: [Front; 6] = [
-        (b"\x81\x40", One('\u{3b1}', 2), One('\u{3b1}', 2)),
-        (b"\x81\x7e", One('\u{3b1}', 2), One('\u{3b1}', 2)),
-        (b"\x81\x7f", Bad(1), Bad(1)),
-        (b"\xfe\x80", One('\u{3b1}', 2), One('\u{3b1}', 2)),
-        (b"\xfe\xfe", One('\u{3b1}', 2), One('\u{3b1}', 2)),
-        (b"\x81\x30\x81\x30", Bad(4), Bad(4)),
-    ];
-    check_steps(&rt, &Gb18030::new(&Alphas, &Nothing, false), &greek);
+    check_steps(&rt, &Gb18030::new(&Nothing, &Nothing, false), &NONE);
+    check_steps(&rt, &Gb18030::new(&Nothing, &Nothing, true), &NONE);
+    check_steps(&rt, &Gb18030::new(&Alphas, &Nothing, false), &GREEK);
 }
+
+const FAILED: [Text; 1] = [(b"\x81\x30\x81\x41", "\u{fffd}0\u{4e04}", &[1])];
+
+const ENDS: [Text; 3] = [
+    (b"\x90\x30\x81\x30", "\u{10000}", b""),
+    (
+        b"\xe3\x32\x9a\x35\xe3\x32\x9a\x36",
+        "\u{10ffff}\u{fffd}",
+        &[4],
+    ),
+    (b"\x80\x90\x30\x81", "\u{20ac}\u{fffd}", &[3]),
+];
+
+const ONE: [Text; 1] = [(
+    b"\xa7\xa8A\xa7\xa9\xa7A",
+    "\u{416}A\u{fffd}\u{fffd}A",
+    &[2, 1],
+)];
 
 #[test]
 fn every_cut(rt: HostRuntime) -> Result<(), Fail> {
-    let failed: Text = (b"\x81\x30\x81\x41", "\u{fffd}0\u{4e04}", &[1]);
-    for cut in 0..=failed.0.len() {
-        check_cut(
-            &rt,
-            rt.alloc(),
-            Gb18030::new(&Ideograph, &Nothing, false),
-            &failed,
-            cut,
-        )?;
-    }
-    let ends: [Text; 3] = [
-        (b"\x90\x30\x81\x30", "\u{10000}", b""),
-        (
-            b"\xe3\x32\x9a\x35\xe3\x32\x9a\x36",
-            "\u{10ffff}\u{fffd}",
-            &[4],
-        ),
-        (b"\x80\x90\x30\x81", "\u{20ac}\u{fffd}", &[3]),
-    ];
-    for row in &ends {
-        for cut in 0..=row.0.len() {
-            check_cut(
-                &rt,
-                rt.alloc(),
-                Gb18030::new(&Nothing, &Ends, false),
-                row,
-                cut,
-            )?;
-        }
-    }
+    let ideograph = Gb18030::new(&Ideograph, &Nothing, false);
+    check_cuts(&rt, rt.alloc(), ideograph, &FAILED)?;
+    let ends = Gb18030::new(&Nothing, &Ends, false);
+    check_cuts(&rt, rt.alloc(), ends, &ENDS)?;
     let row = OneRow { place: 7323 };
-    let one: Text = (
-        b"\xa7\xa8A\xa7\xa9\xa7A",
-        "\u{416}A\u{fffd}\u{fffd}A",
-        &[2, 1],
-    );
-    for cut in 0..=one.0.len() {
-        check_cut(
-            &rt,
-            rt.alloc(),
-            Gb18030::new(&row, &Nothing, true),
-            &one,
-            cut,
-        )?;
-    }
-    Ok(())
+    check_cuts(&rt, rt.alloc(), Gb18030::new(&row, &Nothing, true), &ONE)
 }
