@@ -1,4 +1,5 @@
-//! The codes: for each encoding, how its bytes are read.
+//! One file for each code: how its bytes are read, how scalars are written in it, and its laws, the
+//! functions without a body at its end.
 
 pub mod big5;
 pub mod euc_jp;

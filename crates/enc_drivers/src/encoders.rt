@@ -1,4 +1,5 @@
-//! Encoders of text in pieces: one body for any code, from UTF-8 and from UTF-16.
+//! The calls that encode a text's next piece, from UTF-8 or from UTF-16: one body for any code, one
+//! for codes that keep ASCII, whose runs it copies, and a copy where UTF-8 stays UTF-8.
 ghost use Rattle.std.specs.Prelude.{◌≡◌, ◌≤◌, ◌<◌, [], ◌∷◌, length};
 ghost use Rattle.std.specs.Char.{IsScalar};
 ghost use Rattle.enc_handles.specs.Utf8.{AreScalars};

@@ -1,8 +1,12 @@
 //! Big5 (Encoding Standard, section 11.1.1, Big5 decoder).
 
-ghost use Rattle.std.specs.Prelude.{◌≡◌, ◌<◌, ◌≤◌, ◌||◌, true};
+ghost use Rattle.std.specs.Prelude.{◌≡◌, ◌<◌, ◌≤◌, ◌||◌, true, ℕ, List, [], ◌∷◌, ◌++◌};
 ghost use Rattle.enc_drivers.specs.Bulk.{IsItemEntry};
-ghost use Rattle.enc_drivers.specs.Codes.Big5.{is_big5_lead, is_big5_trail, big5_place, big5_at, big5_pairs, big5_unit};
+ghost use Rattle.enc_drivers.specs.Codes.Big5.{is_big5_lead, is_big5_trail, big5_place, big5_at, big5_pairs, big5_unit, big5_bytes};
+ghost use Rattle.enc_drivers.specs.Lookup.{Places, FindsScalars};
+ghost use Rattle.enc_drivers.specs.Units.{IsCode, scalar_at};
+ghost use Rattle.enc_drivers.specs.declared.unit.Item.TheVariants.{Malformed};
+ghost use Rattle.enc_drivers.specs.declared.unit.Mode.{Mode};
 
 use crate::code::{Bulk, Code, Step};
 use crate::codes::pairs::{self, PairCode};
@@ -125,3 +129,27 @@ fn at<L: Lookup>(index: &L, place: u32) -> Item
         _ => pairs::item_found(index.at(place)),
     }
 }
+
+/// A unit of Big5 has one to four bytes, its text at most three bytes for each, and the first four
+/// bytes of a rest decide it, over an index of scalars.
+pub fn is_code()
+    ensures { (places : Places) → FindsScalars places → IsCode (big5_unit places) }
+{}
+
+/// An ASCII byte is a unit of itself, whatever follows.
+pub fn keeps_ascii()
+    ensures { (places : Places) (mode : Mode) (byte : ℕ) (rest : List ℕ) → byte < 0x80 →
+        big5_unit places mode (byte ∷ rest) ≡ scalar_at mode byte 1 }
+{}
+
+/// What stands at a place is read from the two bytes of this place, and each lead and trail are the
+/// bytes of their place.
+pub fn places_have_bytes()
+    ensures read_back { (places : Places) (mode : Mode) (place : ℕ) (rest : List ℕ) → place < 19782
+        →
+        let item = big5_at places place in ¬ (item ≡ Malformed) →
+        big5_unit places mode (big5_bytes place ++ rest)
+        ≡ record { item = item; len = 2; next = mode } }
+    ensures unique { (lead trail : ℕ) → is_big5_lead lead ≡ true → is_big5_trail trail ≡ true →
+        big5_bytes (big5_place lead trail) ≡ lead ∷ trail ∷ [] }
+{}

@@ -1,7 +1,10 @@
 //! EUC-JP (Encoding Standard, section 12.1: 12.1.1, EUC-JP decoder, and 12.1.2, EUC-JP encoder).
-ghost use Rattle.std.specs.Prelude.{◌≡◌, ◌<◌, ◌≤◌, ◌&&◌, ◌==◌, true};
-ghost use Rattle.enc_drivers.specs.Lookup.{IsEntryOf};
+ghost use Rattle.std.specs.Prelude.{◌≡◌, ◌<◌, ◌≤◌, ◌&&◌, ◌==◌, true, ℕ, List, ◌∷◌, ◌++◌};
+ghost use Rattle.enc_drivers.specs.Lookup.{IsEntryOf, Places, FindsScalars, HasNoAstral};
 ghost use Rattle.enc_drivers.specs.Codes.EucJp.{in_row, is_euc_jp_lead, row_scalar, euc_jp_scalar, euc_jp_unit, euc_jp_bytes_of, euc_jp_bytes, minus_as_hyphen};
+ghost use Rattle.enc_drivers.specs.Units.{IsCode, scalar_at};
+ghost use Rattle.enc_drivers.specs.Encode.{IsAsciiCompatible, MapsNoAstral, ReadsBack};
+ghost use Rattle.enc_drivers.specs.declared.unit.Mode.{Mode};
 
 use crate::Mode;
 use crate::code::{Bulk, Code, Step};
@@ -206,3 +209,43 @@ fn minus_as_hyphen(scalar: char) -> char
         scalar
     }
 }
+
+/// A unit of EUC-JP has one to four bytes, its text at most three bytes for each, and the first
+/// four bytes of a rest decide it, over two indexes.
+pub fn is_code()
+    ensures { (jis0208 jis0212 : Places) → FindsScalars jis0208 → FindsScalars jis0212
+        → IsCode (euc_jp_unit jis0208 jis0212) }
+{}
+
+/// What stands at a place of either index is read from the bytes of this place, those of jis0212
+/// behind 8F.
+pub fn places_have_bytes()
+    ensures read_back { (jis0208 jis0212 : Places) (mode : Mode) (place scalar : ℕ) (rest : List ℕ)
+        → place < 8836 →
+        jis0208 place ≡ Some scalar →
+        euc_jp_unit jis0208 jis0212 mode (euc_jp_bytes place ++ rest) ≡ scalar_at mode scalar 2 }
+    ensures read_back_of_three { (jis0208 jis0212 : Places) (mode : Mode) (place scalar : ℕ)
+        (rest : List ℕ) → place < 8836 →
+        jis0212 place ≡ Some scalar →
+        euc_jp_unit jis0208 jis0212 mode (0x8F ∷ (euc_jp_bytes place ++ rest))
+        ≡ scalar_at mode scalar 3 }
+{}
+
+/// What the encoder writes of a scalar is read as that scalar, whatever follows: of all but the yen
+/// sign, the overline and the minus sign, whose bytes stand for other scalars.
+pub fn scalars_read_back()
+    ensures { (jis0208 jis0212 : Places) (scalar : ℕ) →
+        ¬ (scalar ≡ 0xA5) → ¬ (scalar ≡ 0x203E) → ¬ (scalar ≡ 0x2212) →
+        ReadsBack (euc_jp_unit jis0208 jis0212) (euc_jp_bytes_of jis0208) scalar }
+{}
+
+/// An ASCII scalar has itself as its one byte.
+pub fn encoder_keeps_ascii()
+    ensures { (jis0208 : Places) → IsAsciiCompatible (euc_jp_bytes_of jis0208) }
+{}
+
+/// No scalar above U+FFFF has bytes, where the index has none.
+pub fn encoder_without_astral()
+    ensures { (jis0208 : Places) → HasNoAstral jis0208 →
+        MapsNoAstral (euc_jp_bytes_of jis0208) }
+{}

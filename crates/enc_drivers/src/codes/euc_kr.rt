@@ -1,6 +1,12 @@
 //! EUC-KR (Encoding Standard, section 13.1: 13.1.1, EUC-KR decoder, and 13.1.2, EUC-KR encoder).
-ghost use Rattle.std.specs.Prelude.{◌≡◌, ◌<◌, ◌≤◌, true};
-ghost use Rattle.enc_drivers.specs.Codes.EucKr.{is_euc_kr_lead, is_euc_kr_trail, euc_kr_place, euc_kr_pairs, euc_kr_unit, euc_kr_bytes_of};
+ghost use Rattle.std.specs.Prelude.{◌≡◌, ◌<◌, ◌≤◌, true, ℕ, List, [], ◌∷◌, ◌++◌};
+ghost use Rattle.enc_drivers.specs.Codes.EucKr.{is_euc_kr_lead, is_euc_kr_trail, euc_kr_place, euc_kr_pairs, euc_kr_unit, euc_kr_bytes_of, euc_kr_bytes};
+ghost use Rattle.enc_drivers.specs.Codes.Pairs.{item_found};
+ghost use Rattle.enc_drivers.specs.Lookup.{Places, FindsScalars, HasNoAstral};
+ghost use Rattle.enc_drivers.specs.Units.{IsCode, scalar_at};
+ghost use Rattle.enc_drivers.specs.Encode.{IsAsciiCompatible, MapsNoAstral, ReadsBack};
+ghost use Rattle.enc_drivers.specs.declared.unit.Item.TheVariants.{Malformed};
+ghost use Rattle.enc_drivers.specs.declared.unit.Mode.{Mode};
 
 use crate::code::{Bulk, Code, Step};
 use crate::codes::pairs::{self, PairCode};
@@ -124,3 +130,44 @@ impl<'t, L: Lookup> EncodeCode for EucKr<'t, L> {
 
     ghost laws = { λ code. euc_kr_encoder (L.places code.index.now) };
 }
+
+/// A unit of EUC-KR has one to four bytes, its text at most three bytes for each, and the first
+/// four bytes of a rest decide it, over an index of scalars.
+pub fn is_code()
+    ensures { (places : Places) → FindsScalars places → IsCode (euc_kr_unit places) }
+{}
+
+/// An ASCII byte is a unit of itself, whatever follows.
+pub fn keeps_ascii()
+    ensures { (places : Places) (mode : Mode) (byte : ℕ) (rest : List ℕ) → byte < 0x80 →
+        euc_kr_unit places mode (byte ∷ rest) ≡ scalar_at mode byte 1 }
+{}
+
+/// What stands at a place is read from the two bytes of this place, and each lead and trail are the
+/// bytes of their place.
+pub fn places_have_bytes()
+    ensures read_back { (places : Places) (mode : Mode) (place : ℕ) (rest : List ℕ) → place < 23940
+        →
+        let item = item_found (places place) in ¬ (item ≡ Malformed) →
+        euc_kr_unit places mode (euc_kr_bytes place ++ rest)
+        ≡ record { item = item; len = 2; next = mode } }
+    ensures unique { (lead trail : ℕ) → is_euc_kr_lead lead ≡ true → is_euc_kr_trail trail ≡ true →
+        euc_kr_bytes (euc_kr_place lead trail) ≡ lead ∷ trail ∷ [] }
+{}
+
+/// What the encoder writes of a scalar is read as that scalar, whatever follows.
+pub fn scalars_read_back()
+    ensures { (places : Places) (scalar : ℕ) →
+        ReadsBack (euc_kr_unit places) (euc_kr_bytes_of places) scalar }
+{}
+
+/// An ASCII scalar has itself as its one byte.
+pub fn encoder_keeps_ascii()
+    ensures { (places : Places) → IsAsciiCompatible (euc_kr_bytes_of places) }
+{}
+
+/// No scalar above U+FFFF has bytes, where the index has none.
+pub fn encoder_without_astral()
+    ensures { (places : Places) → HasNoAstral places →
+        MapsNoAstral (euc_kr_bytes_of places) }
+{}

@@ -1,9 +1,12 @@
 //! gb18030, and GBK, which decodes alike (Encoding Standard, sections 10.2.1, gb18030 decoder, and
 //! 10.2.2, gb18030 encoder).
-ghost use Rattle.std.specs.Prelude.{◌≡◌, ◌<◌, ◌≤◌, true, length, slice_index};
-ghost use Rattle.enc_drivers.specs.Lookup.{IsEntryOf};
+ghost use Rattle.std.specs.Prelude.{◌≡◌, ◌<◌, ◌≤◌, true, length, slice_index, ℕ, Bool, List, ◌++◌};
+ghost use Rattle.enc_drivers.specs.Lookup.{IsEntryOf, Places, FindsScalars};
 ghost use Rattle.enc_drivers.specs.Steps.{Steps};
 ghost use Rattle.enc_drivers.specs.Codes.Gb18030.{is_gb18030_lead, is_gb18030_digit, is_gb18030_trail, gb18030_scalar, ranges_place, gb18030_unit, gb18030_bytes_of, gb18030_bytes, ranges_bytes};
+ghost use Rattle.enc_drivers.specs.Units.{IsCode, scalar_at};
+ghost use Rattle.enc_drivers.specs.Encode.{IsAsciiCompatible, ReadsBack};
+ghost use Rattle.enc_drivers.specs.declared.unit.Mode.{Mode};
 
 use crate::Mode;
 use crate::code::{Bulk, Code, Step};
@@ -256,3 +259,35 @@ fn four_bytes(place: u32) -> Encoded
         (place % 10 + 0x30) as u8,
     )
 }
+
+/// A unit of gb18030 or GBK has one to four bytes, its text at most three bytes for each, and the
+/// first four bytes of a rest decide it, over an index and ranges.
+pub fn is_code()
+    ensures { (index ranges : Places) → FindsScalars index → FindsScalars ranges
+        → IsCode (gb18030_unit index ranges) }
+{}
+
+/// What stands at a place of the index is read from the two bytes of this place, and what stands at
+/// a place of the ranges from its four.
+pub fn places_have_bytes()
+    ensures read_back { (index ranges : Places) (mode : Mode) (place scalar : ℕ) (rest : List ℕ)
+        → place < 23940 →
+        index place ≡ Some scalar →
+        gb18030_unit index ranges mode (gb18030_bytes place ++ rest) ≡ scalar_at mode scalar 2 }
+    ensures read_back_of_four { (index ranges : Places) (mode : Mode) (place scalar : ℕ)
+        (rest : List ℕ) → place < 1587600 →
+        ranges place ≡ Some scalar →
+        gb18030_unit index ranges mode (ranges_bytes place ++ rest) ≡ scalar_at mode scalar 4 }
+{}
+
+/// What either encoder writes of a scalar is read as that scalar, whatever follows.
+pub fn scalars_read_back()
+    ensures { (gbk : Bool) (index ranges : Places) (scalar : ℕ) →
+        ReadsBack (gb18030_unit index ranges) (gb18030_bytes_of gbk index ranges) scalar }
+{}
+
+/// An ASCII scalar has itself as its one byte.
+pub fn encoder_keeps_ascii()
+    ensures { (gbk : Bool) (index ranges : Places) →
+        IsAsciiCompatible (gb18030_bytes_of gbk index ranges) }
+{}

@@ -1,10 +1,14 @@
 //! ISO-2022-JP (Encoding Standard, section 12.2.1, ISO-2022-JP decoder).
 
-ghost use Rattle.std.specs.Prelude.{◌≡◌, ◌<◌, ◌≤◌, ◌==◌, ◌||◌, length, slice_index, true};
+ghost use Rattle.std.specs.Prelude.{◌≡◌, ◌<◌, ◌≤◌, ◌==◌, ◌||◌, length, slice_index, true, ℕ, List, ◌++◌};
 ghost use Rattle.enc_drivers.specs.declared.code.Step.TheVariants as step;
 ghost use Rattle.enc_drivers.specs.Steps.{Steps};
-ghost use Rattle.enc_drivers.specs.Codes.Iso2022Jp.{set_of, escape_item, escape_set, escaped, ascii_scalar, roman_scalar, katakana_scalar, single_scalar, in_jis_row, is_jis_lead, iso_2022_jp_unit};
+ghost use Rattle.enc_drivers.specs.Codes.Iso2022Jp.{set_of, escape_item, escape_set, escaped, ascii_scalar, roman_scalar, katakana_scalar, single_scalar, in_jis_row, is_jis_lead, iso_2022_jp_unit, iso_2022_jp_bytes};
 ghost use Rattle.enc_drivers.specs.Codes.Iso2022Jp.{IsPlain};
+ghost use Rattle.enc_drivers.specs.Lookup.{Places, FindsScalars};
+ghost use Rattle.enc_drivers.specs.Units.{IsCode, scalar_at};
+ghost use Rattle.enc_drivers.specs.declared.unit.JisSet.{JisSet};
+ghost use Rattle.enc_drivers.specs.declared.unit.Mode.{Mode};
 
 use crate::code::{Code, Step};
 use crate::codes::sequence::{one, whole};
@@ -220,3 +224,21 @@ fn is_in_row(byte: u8) -> bool
 {
     0x21 <= byte && byte <= 0x7E
 }
+
+/// A unit of ISO-2022-JP has in each mode one to four bytes, its text at most three bytes for each,
+/// and the first four bytes of a rest decide it, over an index.
+pub fn is_code()
+    ensures { (jis0208 : Places) → FindsScalars jis0208 → IsCode (iso_2022_jp_unit jis0208) }
+{}
+
+/// What stands at a place is read from the two bytes of this place in a mode of jis0208, and the
+/// mode behind a unit is never `Plain`.
+pub fn places_have_bytes()
+    ensures read_back { (jis0208 : Places) (mode : Mode) (place scalar : ℕ) (rest : List ℕ)
+        → place < 8836 →
+        set_of mode ≡ JisSet.Jis0208 → jis0208 place ≡ Some scalar →
+        iso_2022_jp_unit jis0208 mode (iso_2022_jp_bytes place ++ rest)
+        ≡ scalar_at (Mode.Within JisSet.Jis0208) scalar 2 }
+    ensures next { (jis0208 : Places) (mode : Mode) (rest : List ℕ) →
+        ¬ ((iso_2022_jp_unit jis0208 mode rest).next ≡ Mode.Plain) }
+{}

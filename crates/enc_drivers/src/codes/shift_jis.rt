@@ -1,8 +1,12 @@
 //! Shift_JIS (Encoding Standard, section 12.3.1, Shift_JIS decoder).
 
-ghost use Rattle.std.specs.Prelude.{◌≡◌, ◌<◌, ◌≤◌, ◌||◌, true};
+ghost use Rattle.std.specs.Prelude.{◌≡◌, ◌<◌, ◌≤◌, ◌||◌, true, ℕ, List, [], ◌∷◌, ◌++◌};
 ghost use Rattle.enc_drivers.specs.Bulk.{IsItemEntry};
-ghost use Rattle.enc_drivers.specs.Codes.ShiftJis.{is_shift_jis_lead, is_shift_jis_trail, shift_jis_place, shift_jis_at, shift_jis_alone, shift_jis_pairs, shift_jis_unit};
+ghost use Rattle.enc_drivers.specs.Codes.ShiftJis.{is_shift_jis_lead, is_shift_jis_trail, shift_jis_place, shift_jis_at, shift_jis_alone, shift_jis_pairs, shift_jis_unit, shift_jis_bytes};
+ghost use Rattle.enc_drivers.specs.Lookup.{Places, FindsScalars};
+ghost use Rattle.enc_drivers.specs.Units.{IsCode, scalar_at};
+ghost use Rattle.enc_drivers.specs.declared.unit.Item.TheVariants.{Malformed};
+ghost use Rattle.enc_drivers.specs.declared.unit.Mode.{Mode};
 
 use crate::code::{Bulk, Code, Step};
 use crate::codes::pairs::{self, PairCode};
@@ -142,3 +146,28 @@ fn at<L: Lookup>(jis0208: &L, place: u32) -> Item
     }
     pairs::item_found(jis0208.at(place))
 }
+
+/// A unit of Shift_JIS has one to four bytes, its text at most three bytes for each, and the first
+/// four bytes of a rest decide it, over an index of scalars.
+pub fn is_code()
+    ensures { (places : Places) → FindsScalars places → IsCode (shift_jis_unit places) }
+{}
+
+/// An ASCII byte is a unit of itself, whatever follows.
+pub fn keeps_ascii()
+    ensures { (places : Places) (mode : Mode) (byte : ℕ) (rest : List ℕ) → byte < 0x80 →
+        shift_jis_unit places mode (byte ∷ rest) ≡ scalar_at mode byte 1 }
+{}
+
+/// What stands at a place is read from the two bytes of this place, and each lead and trail are the
+/// bytes of their place.
+pub fn places_have_bytes()
+    ensures read_back { (places : Places) (mode : Mode) (place : ℕ) (rest : List ℕ) → place < 11280
+        →
+        let item = shift_jis_at places place in ¬ (item ≡ Malformed) →
+        shift_jis_unit places mode (shift_jis_bytes place ++ rest)
+        ≡ record { item = item; len = 2; next = mode } }
+    ensures unique { (lead trail : ℕ) → is_shift_jis_lead lead ≡ true
+        → is_shift_jis_trail trail ≡ true →
+        shift_jis_bytes (shift_jis_place lead trail) ≡ lead ∷ trail ∷ [] }
+{}

@@ -1,8 +1,10 @@
 //! Encodings of one byte a scalar with an index (Encoding Standard, sections 9.1, single-byte
 //! decoder, and 9.2, single-byte encoder).
-ghost use Rattle.std.specs.Prelude.{◌≡◌, ◌<◌, ◌≤◌, length, slice_index, take, IfSome};
+ghost use Rattle.std.specs.Prelude.{◌≡◌, ◌<◌, ◌≤◌, length, slice_index, take, IfSome, ℕ};
 ghost use Rattle.enc_drivers.specs.Codes.SingleByte.{single_byte_item, single_byte_unit, single_byte_bytes_of, TellsEach};
-ghost use Rattle.enc_drivers.specs.Lookup.{HasNoAstral};
+ghost use Rattle.enc_drivers.specs.Lookup.{HasNoAstral, Places, FindsScalars};
+ghost use Rattle.enc_drivers.specs.Units.{IsCode};
+ghost use Rattle.enc_drivers.specs.Encode.{IsAsciiCompatible, MapsNoAstral, ReadsBack};
 
 use crate::code::{Bulk, Code, Step};
 use crate::encode::{EncodeCode, Encoded};
@@ -134,3 +136,27 @@ impl<'t, L: Lookup> EncodeCode for SingleByte<'t, L> {
 
     ghost laws = { λ code. single_byte_encoder (L.places code.index.now) };
 }
+
+/// A unit has one to four bytes, its text at most three bytes for each, and the first four bytes of
+/// a rest decide it, over an index of scalars up to U+FFFF.
+pub fn is_code()
+    ensures { (places : Places) → FindsScalars places → HasNoAstral places
+        → IsCode (single_byte_unit places) }
+{}
+
+/// What the encoder writes of a scalar is read as that scalar, whatever follows.
+pub fn scalars_read_back()
+    ensures { (places : Places) (scalar : ℕ) →
+        ReadsBack (single_byte_unit places) (single_byte_bytes_of places) scalar }
+{}
+
+/// An ASCII scalar has itself as its one byte.
+pub fn encoder_keeps_ascii()
+    ensures { (places : Places) → IsAsciiCompatible (single_byte_bytes_of places) }
+{}
+
+/// No scalar above U+FFFF has bytes, where the index has none.
+pub fn encoder_without_astral()
+    ensures { (places : Places) → HasNoAstral places →
+        MapsNoAstral (single_byte_bytes_of places) }
+{}

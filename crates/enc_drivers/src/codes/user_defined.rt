@@ -1,7 +1,9 @@
 //! x-user-defined (Encoding Standard, sections 14.5.1, x-user-defined decoder, and 14.5.2,
 //! x-user-defined encoder).
-ghost use Rattle.std.specs.Prelude.{◌≡◌};
+ghost use Rattle.std.specs.Prelude.{◌≡◌, ℕ};
 ghost use Rattle.enc_drivers.specs.Codes.UserDefined.{user_defined_scalar, user_defined_unit, user_defined_bytes_of};
+ghost use Rattle.enc_drivers.specs.Units.{IsCode};
+ghost use Rattle.enc_drivers.specs.Encode.{IsAsciiCompatible, MapsNoAstral, ReadsBack};
 
 use crate::code::{Bulk, Code, Step};
 use crate::encode::{EncodeCode, Encoded};
@@ -91,3 +93,25 @@ impl EncodeCode for UserDefined {
 
     ghost laws = { λ code. user_defined_encoder };
 }
+
+/// A unit of x-user-defined has one to four bytes, its text at most three bytes for each, and the
+/// first four bytes of a rest decide it.
+pub fn is_code()
+    ensures { IsCode user_defined_unit }
+{}
+
+/// What the encoder writes of a scalar is read as that scalar, whatever follows.
+pub fn scalars_read_back()
+    ensures { (scalar : ℕ) →
+        ReadsBack user_defined_unit user_defined_bytes_of scalar }
+{}
+
+/// An ASCII scalar has itself as its one byte.
+pub fn encoder_keeps_ascii()
+    ensures { IsAsciiCompatible user_defined_bytes_of }
+{}
+
+/// No scalar above U+FFFF has bytes.
+pub fn encoder_without_astral()
+    ensures { MapsNoAstral user_defined_bytes_of }
+{}

@@ -1,11 +1,14 @@
 //! UTF-16 in either byte order (Encoding Standard, section 14.2.1, shared UTF-16 decoder). Text for
 //! it is written as UTF-8 (section 4.3, "get an output encoding").
-ghost use Rattle.std.specs.Prelude.{◌≡◌, ◌<◌, ◌≤◌, true, false, length};
+ghost use Rattle.std.specs.Prelude.{◌≡◌, ◌<◌, ◌≤◌, true, false, length, ℕ, Bool, List, ◌++◌};
 ghost use Rattle.enc_handles.specs.Utf16.{code_unit, is_lead, is_trail, pair_scalar};
 ghost use Rattle.enc_drivers.specs.Steps.{Steps};
-ghost use Rattle.enc_drivers.specs.Codes.Utf16.{single_unit, utf16_unit};
+ghost use Rattle.enc_drivers.specs.Codes.Utf16.{single_unit, utf16_unit, scalar_bytes};
 ghost use Rattle.enc_drivers.specs.Codes.Utf8.{utf8_bytes_of};
 ghost use Rattle.enc_drivers.specs.declared.code.Step.TheVariants as step;
+ghost use Rattle.std.specs.Char.{IsScalar};
+ghost use Rattle.enc_drivers.specs.Units.{IsCode, scalar_at};
+ghost use Rattle.enc_drivers.specs.declared.unit.Mode.{Mode};
 
 use crate::code::{Bulk, Code, Step};
 use crate::codes::utf8::utf8_of;
@@ -128,3 +131,21 @@ impl<E: Endian> EncodeCode for Utf16Code<E> {
 
     ghost laws = { λ code. utf8_encoder };
 }
+
+/// A unit of UTF-16BE has one to four bytes, its text at most three bytes for each, and the first
+/// four bytes of a rest decide it.
+pub fn big_endian_is_code()
+    ensures { IsCode (utf16_unit true) }
+{}
+
+/// The same of UTF-16LE.
+pub fn little_endian_is_code()
+    ensures { IsCode (utf16_unit false) }
+{}
+
+/// What UTF-16, of either byte order, writes of a scalar is read as that scalar, whatever follows.
+pub fn sequences_of_scalars()
+    ensures { (big : Bool) (mode : Mode) (scalar : ℕ) (rest : List ℕ) → IsScalar scalar →
+        utf16_unit big mode (scalar_bytes big scalar ++ rest)
+        ≡ scalar_at mode scalar (length (scalar_bytes big scalar)) }
+{}

@@ -1,10 +1,13 @@
 //! UTF-8 (Encoding Standard, sections 8.1.1, UTF-8 decoder, and 8.1.2, UTF-8 encoder; the Unicode
 //! Standard, table 3-7).
-ghost use Rattle.std.specs.Prelude.{◌≡◌, ◌<◌, ◌≤◌, length, slice_index, ◌&&◌, ◌||◌, ◌==◌, not, encode_utf8};
+ghost use Rattle.std.specs.Prelude.{◌≡◌, ◌<◌, ◌≤◌, length, slice_index, ◌&&◌, ◌||◌, ◌==◌, not, encode_utf8, ℕ, List, ◌++◌};
 ghost use Rattle.enc_drivers.specs.Steps.{Steps};
 ghost use Rattle.enc_handles.specs.Utf8.{byte_in, begins_two, begins_three, begins_four, sequence_len, sequence_scalar};
-ghost use Rattle.enc_drivers.specs.Codes.Utf8.{begins_pair, two_of_three, two_of_four, malformed_len, utf8_unit, utf8_bytes_of};
+ghost use Rattle.enc_drivers.specs.Codes.Utf8.{begins_pair, two_of_three, two_of_four, malformed_len, utf8_unit, utf8_bytes_of, IsLongestBegun};
 ghost use Rattle.std.specs.Char.{IsScalar};
+ghost use Rattle.enc_drivers.specs.Units.{IsCode, scalar_at};
+ghost use Rattle.enc_drivers.specs.Encode.{IsAsciiCompatible, ReadsBack};
+ghost use Rattle.enc_drivers.specs.declared.unit.Mode.{Mode};
 
 use crate::code::{Bulk, Code, Step};
 use crate::encode::{EncodeCode, Encoded};
@@ -232,3 +235,34 @@ fn four(code: u32) -> Encoded
         (0x80 + code % 0x40) as u8,
     )
 }
+
+/// A unit of UTF-8 has one to four bytes, its text at most three bytes for each, and the first four
+/// bytes of a rest decide it.
+pub fn is_code()
+    ensures { IsCode utf8_unit }
+{}
+
+/// What UTF-8 writes of a scalar is read as that scalar, whatever follows: the sequences of the
+/// table are the UTF-8 of the scalars.
+pub fn sequences_of_scalars()
+    ensures { (mode : Mode) (scalar : ℕ) (rest : List ℕ) → IsScalar scalar →
+        utf8_unit mode (encode_utf8 scalar ++ rest)
+        ≡ scalar_at mode scalar (length (encode_utf8 scalar)) }
+{}
+
+/// A malformed unit covers the longest front of the rest that begins some well-formed sequence, and
+/// at least one byte.
+pub fn malformed_units()
+    ensures { (bytes : List ℕ) → 0 < length bytes → sequence_len bytes ≡ 0
+        → IsLongestBegun bytes (malformed_len bytes) }
+{}
+
+/// What the encoder writes of a scalar is read as that scalar, whatever follows.
+pub fn scalars_read_back()
+    ensures { (scalar : ℕ) → IsScalar scalar → ReadsBack utf8_unit utf8_bytes_of scalar }
+{}
+
+/// An ASCII scalar has itself as its one byte.
+pub fn encoder_keeps_ascii()
+    ensures { IsAsciiCompatible utf8_bytes_of }
+{}

@@ -1,7 +1,9 @@
 //! windows-1252 (Encoding Standard, sections 9.1, single-byte decoder, and 9.2, single-byte
 //! encoder, and index windows-1252).
-ghost use Rattle.std.specs.Prelude.{◌≡◌, ◌<◌, ◌≤◌, ◌%◌, slice_index};
+ghost use Rattle.std.specs.Prelude.{◌≡◌, ◌<◌, ◌≤◌, ◌%◌, slice_index, ℕ};
 ghost use Rattle.enc_drivers.specs.Codes.Windows1252.{windows_1252_scalar, windows_1252_unit, windows_1252_bytes_of, windows_1252_table};
+ghost use Rattle.enc_drivers.specs.Units.{IsCode};
+ghost use Rattle.enc_drivers.specs.Encode.{IsAsciiCompatible, MapsNoAstral, ReadsBack};
 
 use crate::code::{Bulk, Code, Step};
 use crate::encode::{EncodeCode, Encoded};
@@ -129,3 +131,24 @@ fn entry(place: u8) -> char
 {
     TABLE[usize::from(place)]
 }
+
+/// A unit of windows-1252 has one to four bytes, its text at most three bytes for each, and the
+/// first four bytes of a rest decide it.
+pub fn is_code()
+    ensures { IsCode windows_1252_unit }
+{}
+
+/// What the encoder writes of a scalar is read as that scalar, whatever follows.
+pub fn scalars_read_back()
+    ensures { (scalar : ℕ) → ReadsBack windows_1252_unit windows_1252_bytes_of scalar }
+{}
+
+/// An ASCII scalar has itself as its one byte.
+pub fn encoder_keeps_ascii()
+    ensures { IsAsciiCompatible windows_1252_bytes_of }
+{}
+
+/// No scalar above U+FFFF has bytes.
+pub fn encoder_without_astral()
+    ensures { MapsNoAstral windows_1252_bytes_of }
+{}

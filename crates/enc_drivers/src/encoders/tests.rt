@@ -5,15 +5,14 @@ ghost use Rattle.enc_handles.specs.Scalars.{scalars16, is_seam8, is_seam16};
 ghost use Rattle.enc_drivers.specs.Encode.{IsAsciiCompatible, MapsNoAstral};
 ghost use Rattle.enc_drivers.specs.Encodes.{EncodesRaw};
 
-use crate::codes::euc_kr::EucKr;
-use crate::codes::windows_1252::Windows1252;
+use crate::codes::euc_kr::{self, EucKr};
+use crate::codes::windows_1252::{self, Windows1252};
 use crate::encode::EncodeCode;
 use crate::encoders::{
     ascii_compatible_bmp_encode_from_utf8_raw, ascii_compatible_bmp_encode_from_utf16_raw,
     ascii_compatible_encode_from_utf8_raw, ascii_compatible_encode_from_utf16_raw,
     encode_from_utf8_raw, encode_from_utf16_raw, utf8_encode_from_utf8_raw,
 };
-use crate::laws::{encoders_keep_ascii, encoders_without_astral};
 use crate::testing::{OneRow, same};
 use EncoderResult::*;
 use enc_handles::results::EncoderResult;
@@ -33,7 +32,7 @@ fn unmappable_scalars(rt: HostRuntime) {
 // the source.
 #[test]
 fn copies_ascii_by_strides(rt: HostRuntime) {
-    encoders_keep_ascii();
+    windows_1252::encoder_keeps_ascii();
     let mut dst = [0; 16];
     let text = "abc\u{416}xxxxxxxxxxxx";
     let code = Windows1252::new();
@@ -235,9 +234,11 @@ const KOREAN: Text = ("a\u{416}<z\u{416}", &[0x61, 0x416, 0x3c, 0x7a, 0x416]);
 
 #[test]
 fn each_call_at_each_room(rt: HostRuntime) {
-    encoders_keep_ascii();
-    encoders_without_astral();
+    windows_1252::encoder_keeps_ascii();
+    windows_1252::encoder_without_astral();
     check_rooms(&rt, &Windows1252::new(), LATIN, b"a\xe9<z\x80", 1);
+    euc_kr::encoder_keeps_ascii();
+    euc_kr::encoder_without_astral();
     let index = OneRow { place: 8273 };
     check_rooms(&rt, &EucKr::new(&index), KOREAN, b"a\xac\xa8<z\xac\xa8", 2);
 }

@@ -1,0 +1,6 @@
+use Rattle.std.proofs.Common.{true}
+use Rattle.enc_drivers.specs.Lemmas.Utf16Law.{utf16_law}
+use Rattle.enc_drivers.proofs.codes.utf16.big_endian_is_code.Goals as goal
+
+pub returns : goal.returns
+returns c = utf16_law true

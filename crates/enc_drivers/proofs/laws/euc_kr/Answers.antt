@@ -1,5 +1,0 @@
-use Rattle.enc_drivers.specs.Lemmas.EucKrLaw.{euc_kr_law}
-use Rattle.enc_drivers.proofs.laws.euc_kr.Goals as goal
-
-pub returns : goal.returns
-returns c = euc_kr_law

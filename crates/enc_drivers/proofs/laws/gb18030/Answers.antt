@@ -1,5 +1,0 @@
-use Rattle.enc_drivers.specs.Lemmas.Gb18030Law.{gb18030_law}
-use Rattle.enc_drivers.proofs.laws.gb18030.Goals as goal
-
-pub returns : goal.returns
-returns c = gb18030_law

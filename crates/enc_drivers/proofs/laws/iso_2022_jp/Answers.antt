@@ -1,5 +1,0 @@
-use Rattle.enc_drivers.specs.Lemmas.Iso2022JpLaw.{iso_2022_jp_law}
-use Rattle.enc_drivers.proofs.laws.iso_2022_jp.Goals as goal
-
-pub returns : goal.returns
-returns c = iso_2022_jp_law

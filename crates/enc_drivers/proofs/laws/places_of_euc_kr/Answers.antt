@@ -1,8 +1,0 @@
-use Rattle.enc_drivers.proofs.PairPlaces.{euc_kr_read_back, euc_kr_unique}
-use Rattle.enc_drivers.proofs.laws.places_of_euc_kr.Goals as goal
-
-pub returns-clause-read_back : goal.returns-clause-read_back
-returns-clause-read_back c = euc_kr_read_back
-
-pub returns-clause-unique : goal.returns-clause-unique
-returns-clause-unique c = euc_kr_unique

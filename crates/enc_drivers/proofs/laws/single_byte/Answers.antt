@@ -1,5 +1,0 @@
-use Rattle.enc_drivers.specs.Lemmas.SingleByteLaw.{single_byte_law}
-use Rattle.enc_drivers.proofs.laws.single_byte.Goals as goal
-
-pub returns : goal.returns
-returns c = single_byte_law

@@ -1,5 +1,0 @@
-use Rattle.enc_drivers.proofs.Utf16RoundTrip.{utf16_round_trip}
-use Rattle.enc_drivers.proofs.laws.utf_16_of_scalars.Goals as goal
-
-pub returns : goal.returns
-returns c = utf16_round_trip

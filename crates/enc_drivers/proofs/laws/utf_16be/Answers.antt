@@ -1,6 +1,0 @@
-use Rattle.std.proofs.Common.{true}
-use Rattle.enc_drivers.specs.Lemmas.Utf16Law.{utf16_law}
-use Rattle.enc_drivers.proofs.laws.utf_16be.Goals as goal
-
-pub returns : goal.returns
-returns c = utf16_law true

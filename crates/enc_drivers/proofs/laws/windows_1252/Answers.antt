@@ -1,5 +1,0 @@
-use Rattle.enc_drivers.specs.Lemmas.SingleByteLaw.{windows_1252_law}
-use Rattle.enc_drivers.proofs.laws.windows_1252.Goals as goal
-
-pub returns : goal.returns
-returns c = windows_1252_law

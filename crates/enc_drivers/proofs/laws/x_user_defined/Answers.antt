@@ -1,5 +1,0 @@
-use Rattle.enc_drivers.specs.Lemmas.SingleByteLaw.{user_defined_law}
-use Rattle.enc_drivers.proofs.laws.x_user_defined.Goals as goal
-
-pub returns : goal.returns
-returns c = user_defined_law
