@@ -1,6 +1,6 @@
-//! Codes of the Encoding Standard's decoders: the units that they read, and drivers that decode a
-//! stream in pieces. The definitions are in `specs/`: `units` of a code, their `text`, and the
-//! resume equation.
+//! The codes of the Encoding Standard, and the calls that decode and encode a stream by them, in
+//! pieces of any length and with no memory of their own. The definitions are in `specs/`: `units`
+//! of a code, their `text`, and the resume equation.
 #![tactic(auto)]
 
 pub mod code;

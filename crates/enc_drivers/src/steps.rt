@@ -1,4 +1,4 @@
-//! Answers of `step` that several codes give.
+//! What a code answers of the front of bytes: a scalar, malformed bytes, or that more are needed.
 
 ghost use Rattle.std.specs.Prelude.{◌≡◌, if◌then◌else◌, IfSome};
 ghost use Rattle.enc_drivers.specs.Bulk.{IsScalarOf};
