@@ -21,7 +21,7 @@ use std::alloc::{AllocError, Global};
 // Stands in a cell without a scalar.
 const NONE: u32 = u32::MAX;
 
-/// A scalar or none at each of some places.
+// A scalar or none at each of some places.
 #[derive(Debug, Drop)]
 pub(crate) struct Cells {
     cells: Vec<u32>,
@@ -111,9 +111,9 @@ fn cell_entry(cell: u32) -> u32
     }
 }
 
-/// An index with a scalar or none at each of its places and its entry, a key for each scalar and
-/// its place, in the order of the scalars, the longest stretch of these, and the entries of bytes by
-/// the first 128 places.
+// An index with a scalar or none at each of its places and its entry, a key for each scalar and
+// its place, in the order of the scalars, the longest stretch of these, and the entries of bytes by
+// the first 128 places.
 #[derive(Debug, Drop)]
 pub(crate) struct Index {
     cells: Cells,
@@ -196,7 +196,7 @@ impl Lookup for Index {
     ghost scalars = { λ index. cells_find_scalars index.cells.cells.items };
 }
 
-/// The keys of pairs of a place and a scalar, in their order.
+// The keys of pairs of a place and a scalar, in their order.
 pub(crate) fn sorted_keys(alloc: Global, pairs: &[(u32, u32)]) -> Result<Vec<u64>, AllocError>
     ensures sorted { IfOk result (λ keys. IsNonDecreasing keys.items) }
     ensures keys { IfOk result (λ keys. (key : ℕ)
@@ -236,7 +236,7 @@ fn place_below(number: u64, below: u32) -> Option<u32>
     }
 }
 
-/// The ranges of gb18030: rows of a run's first place and its scalar, in the order of the places.
+// The ranges of gb18030: rows of a run's first place and its scalar, in the order of the places.
 #[derive(Debug, Drop)]
 pub(crate) struct Ranges {
     rows: Vec<(u32, u32)>,
@@ -353,11 +353,11 @@ fn is_outside(place: u32) -> bool
     (39_420 <= place && place < 189_000) || 1_237_575 < place
 }
 
-/// An index of either form.
+// An index of either form.
 #[derive(Debug, Drop)]
 pub(crate) enum AnyIndex {
-    /// With a cell for each place.
+    // With a cell for each place.
     OfCells(Index),
-    /// With a row for each run of places.
+    // With a row for each run of places.
     OfRanges(Ranges),
 }

@@ -1,4 +1,4 @@
-//! Encodings by name and label, and the text of bytes in them, after the Encoding Standard.
+//! Turns bytes of any encoding of the Encoding Standard into text, and text into bytes of most.
 #![tactic(auto)]
 
 mod charset;

@@ -20,7 +20,7 @@ use std::alloc::Global;
 // The number of places of the ranges.
 const RANGE_PLACES: u32 = 1_237_576;
 
-/// The flat index of a kind that is made of pairs of a place and a scalar.
+// The flat index of a kind that is made of pairs of a place and a scalar.
 pub(crate) fn flat_index(
     alloc: Global,
     kind: IndexKind,
@@ -73,7 +73,7 @@ pub(crate) fn is_scalar(number: u32) -> bool
     number < 0xD800 || (0xE000 <= number && number < 0x11_0000)
 }
 
-/// The first faulty row of ranges, counted from 0, and the first of its faults.
+// The first faulty row of ranges, counted from 0, and the first of its faults.
 pub(crate) fn ranges_fault(rows: &[(u32, u32)]) -> Option<(usize, Why)>
     ensures { result ≡ row_fault IndexKind.Gb18030Ranges rows.now }
 {
@@ -87,7 +87,7 @@ pub(crate) fn ranges_fault(rows: &[(u32, u32)]) -> Option<(usize, Why)>
     None
 }
 
-/// Where the run of a row ends: at the place of the row behind it, or at the end of the ranges.
+// Where the run of a row ends: at the place of the row behind it, or at the end of the ranges.
 pub(crate) fn end_behind(rows: &[(u32, u32)], at: usize) -> u32
     requires { at < length rows.now }
     ensures { result ≡ run_end (drop (at + 1) rows.now) }

@@ -3,7 +3,7 @@
 ghost use Rattle.std.specs.Prelude.{◌≡◌, ◌⊎◌, ℕ, ◌+◌, ◌<◌, ◌≤◌, IfSome, length, max};
 ghost use Rattle.std.specs.List.Sorted.{IsNonDecreasing};
 
-/// A scalar and its least place, and how many scalars in a row from it on have the places behind.
+// A scalar and its least place, and how many scalars in a row from it on have the places behind.
 #[derive(Clone, Copy, Debug)]
 pub(crate) struct Stretch {
     scalar: u64,
@@ -16,7 +16,7 @@ pub(crate) struct Stretch {
 impl Stretch {
     ghost use Rattle.enc_front.specs.Stretch.{GoesOn, HasStretch, IsWithin};
 
-    /// The longest one by sorted keys.
+    // The longest one by sorted keys.
     pub(crate) fn longest_of(keys: &[u64]) -> Stretch
         requires { IsNonDecreasing keys.now }
         ensures { HasStretch keys.now result }
@@ -30,7 +30,7 @@ impl Stretch {
         longest
     }
 
-    /// The place of a scalar, if it is one of these.
+    // The place of a scalar, if it is one of these.
     #[inline(always)]
     pub(crate) fn place_of(self, scalar: u32) -> Option<u64>
         ensures { IfSome result (λ place. IsWithin self scalar place) }

@@ -158,7 +158,7 @@ impl<T: Drop> From<AllocFailed<T>> for TableError {
     }
 }
 
-/// An index and its kind.
+// An index and its kind.
 #[derive(Debug, Drop)]
 pub(crate) struct Entry {
     kind: IndexKind,

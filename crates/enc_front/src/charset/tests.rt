@@ -5,7 +5,7 @@ use std::alloc::Global;
 use std::process::Abort;
 use std::test::Fail;
 
-/// A label, bytes, and their text.
+// A label, bytes, and their text.
 type Row = (&'static [u8], &'static [u8], &'static str);
 
 const ROWS: [Row; 6] = [

@@ -2,13 +2,14 @@ use super::*;
 use crate::encoding::SingleName;
 use crate::tables::IndexKind;
 use crate::testing::same;
+use CoderResult::{InputEmpty, OutputFull};
 use Encoding::*;
 use Made::*;
 use std::alloc::Global;
 use std::process::Abort;
 use std::test::Fail;
 
-/// How a decoder is made.
+// How a decoder is made.
 #[derive(Clone, Copy, Debug)]
 enum Made {
     New,
@@ -42,14 +43,14 @@ fn decode_piece(
         text.extend_from_slice(&dst[..written])?;
         rest = &rest[read..];
         if let CoderResult::InputEmpty = result {
-            assert_eq!(rt; decoder.is_finished(), last);
+            same(rt, &decoder.is_finished(), &last, &piece);
             return Ok(());
         }
     }
     Err("no end")?
 }
 
-/// How a decoder is made, its encoding, the bytes, their text, and the encoding at the end.
+// How a decoder is made, its encoding, the bytes, their text, and the encoding at the end.
 type Row = (Made, Encoding, &'static [u8], &'static str, Encoding);
 
 const ROWS: [Row; 41] = [
@@ -179,7 +180,7 @@ const ROWS: [Row; 41] = [
     ),
 ];
 
-/// An index of each kind that the rows need, by few pairs of a place and a scalar.
+// An index of each kind that the rows need, by few pairs of a place and a scalar.
 const INDEXES: [(IndexKind, &[(u32, u32)]); 8] = [
     (IndexKind::Big5, &[(1133, 0x4E00), (11142, 0x416)]),
     (IndexKind::EucKr, &[(8273, 0x416)]),
@@ -217,12 +218,9 @@ fn check_cut(
     decode_piece(rt, &mut decoder, &bytes[..first], false, &mut text)?;
     decode_piece(rt, &mut decoder, &bytes[first..second], false, &mut text)?;
     decode_piece(rt, &mut decoder, &bytes[second..], true, &mut text)?;
-    assert_eq!(rt;
-        text.as_slice(),
-        want.0.as_bytes(),
-        "{bytes:?} {first} {second}"
-    );
-    assert_eq!(rt; decoder.encoding(), want.1, "{bytes:?}");
+    let name = (bytes, first, second);
+    same(rt, &text.as_slice(), &want.0.as_bytes(), &name);
+    same(rt, &decoder.encoding(), &want.1, &name);
     Ok(())
 }
 
@@ -278,102 +276,89 @@ fn check_raw(
 
 #[test]
 fn tells_malformed_units(rt: HostRuntime) {
-    use DecoderResult::*;
     let tables = Tables::new();
     let mut decoder = Decoder::new(Encoding::Utf16Le, &tables);
-    check_raw(&rt, &mut decoder, b"\x00\xd8", false, (InputEmpty, 2, 0));
-    check_raw(&rt, &mut decoder, b"A\0", false, (Malformed(2, 2), 2, 0));
+    let held = (DecoderResult::InputEmpty, 2, 0);
+    check_raw(&rt, &mut decoder, b"\x00\xd8", false, held);
+    let malformed = (DecoderResult::Malformed(2, 2), 2, 0);
+    check_raw(&rt, &mut decoder, b"A\0", false, malformed);
     assert!(rt; !decoder.is_finished());
     assert!(rt; !decoder.owes());
     let mut units = [0; 2];
     let end = decoder.decode_to_utf16_without_replacement(b"", &mut units, true);
-    same(&rt, &end, &(InputEmpty, 0, 1), &"end");
+    same(&rt, &end, &(DecoderResult::InputEmpty, 0, 1), &"end");
     same(&rt, &units[0], &0x41, &"end");
     assert!(rt; decoder.is_finished());
 }
 
-// A call to UTF-8, and what it answers.
+// A call to UTF-8 with so much room: what it answers and writes, and what the decoder owes then.
 fn check_call(
     rt: &impl Abort,
     decoder: &mut Decoder,
     src: &[u8],
-    dst: &mut [u8],
+    room: usize,
     last: bool,
-    want: (CoderResult, usize, usize, bool),
+    want: (CoderResult, usize, &[u8], bool, bool),
 ) {
     assert!(rt; !decoder.is_finished());
-    let answer = decoder.decode_to_utf8(src, dst, last);
-    same(rt, &answer, &want, &src);
+    assert!(rt; room <= 4);
+    let mut dst = [0; 4];
+    let (result, read, written, replaced) = decoder.decode_to_utf8(src, &mut dst[..room], last);
+    let got = (result, read, &dst[..written], replaced, decoder.owes());
+    same(rt, &got, &want, &room);
 }
+
+// Bytes of a call, its room, whether it is the last, and what it answers and writes, and what the
+// decoder owes then.
+type Call = (
+    &'static [u8],
+    usize,
+    bool,
+    (CoderResult, usize, &'static [u8], bool, bool),
+);
+
+const CALLS: [Call; 3] = [
+    (b"\xc3", 4, false, (InputEmpty, 1, b"", false, false)),
+    (b"", 2, true, (OutputFull, 0, b"", false, true)),
+    (b"", 3, true, (InputEmpty, 0, b"\xef\xbf\xbd", true, false)),
+];
 
 #[test]
 fn owes_what_has_no_room(rt: HostRuntime) {
-    use CoderResult::*;
     let tables = Tables::new();
     let mut decoder = Decoder::new_without_bom_handling(Encoding::Utf8, &tables);
-    let mut four = [0; 4];
-    check_call(
-        &rt,
-        &mut decoder,
-        b"\xc3",
-        &mut four,
-        false,
-        (InputEmpty, 1, 0, false),
-    );
-    let mut two = [0; 2];
-    check_call(
-        &rt,
-        &mut decoder,
-        b"",
-        &mut two,
-        true,
-        (OutputFull, 0, 0, false),
-    );
-    assert!(rt; decoder.owes());
-    let mut three = [0; 3];
-    check_call(
-        &rt,
-        &mut decoder,
-        b"",
-        &mut three,
-        true,
-        (InputEmpty, 0, 3, true),
-    );
-    same(&rt, &three, b"\xef\xbf\xbd", &"three");
-    assert!(rt; !decoder.owes());
+    for call in &CALLS {
+        let (src, room, last, want) = *call;
+        check_call(&rt, &mut decoder, src, room, last, want);
+    }
     assert!(rt; decoder.is_finished());
 }
 
-// A last call to UTF-16, and what it answers.
+// A last call to UTF-16 with so much room: what it answers and writes, and what the decoder owes
+// then.
 fn check_units_call(
     rt: &impl Abort,
     decoder: &mut Decoder,
     src: &[u8],
-    dst: &mut [u16],
-    want: (CoderResult, usize, usize, bool),
+    room: usize,
+    want: (CoderResult, usize, &[u16], bool, bool),
 ) {
     assert!(rt; !decoder.is_finished());
-    let answer = decoder.decode_to_utf16(src, dst, true);
-    same(rt, &answer, &want, &src);
+    assert!(rt; room <= 1);
+    let mut dst = [0; 1];
+    let (result, read, written, replaced) = decoder.decode_to_utf16(src, &mut dst[..room], true);
+    let got = (result, read, &dst[..written], replaced, decoder.owes());
+    same(rt, &got, &want, &room);
 }
 
 #[test]
 fn owes_what_has_no_room_in_utf_16(rt: HostRuntime) {
-    use CoderResult::*;
     let tables = Tables::new();
     let mut decoder = Decoder::new(Encoding::Utf8, &tables);
-    check_units_call(
-        &rt,
-        &mut decoder,
-        b"\xffa",
-        &mut [],
-        (OutputFull, 1, 0, false),
-    );
-    assert!(rt; decoder.owes());
-    let mut one = [0; 1];
-    check_units_call(&rt, &mut decoder, b"a", &mut one, (OutputFull, 0, 1, true));
-    same(&rt, &one, &[0xFFFD], &"one");
-    assert!(rt; !decoder.owes());
+    let full = (OutputFull, 1, [].as_slice(), false, true);
+    check_units_call(&rt, &mut decoder, b"\xffa", 0, full);
+    let one = (OutputFull, 0, [0xFFFD].as_slice(), true, false);
+    check_units_call(&rt, &mut decoder, b"a", 1, one);
 }
 
 // Decodes bytes that are cut at a place to UTF-16, and compares the code units.
@@ -390,13 +375,14 @@ fn check_units(
     let mut decoder = Decoder::new(encoding, tables);
     let mut dst = [0; 6];
     let (_, read, first, _) = decoder.decode_to_utf16(&bytes[..cut], &mut dst, false);
-    assert_eq!(rt; read, cut);
+    let name = (bytes, cut);
+    same(rt, &read, &cut, &name);
     let (result, _, second, _) = decoder.decode_to_utf16(&bytes[cut..], &mut dst[first..], true);
-    assert_eq!(rt; result, CoderResult::InputEmpty);
-    assert_eq!(rt; &dst[..first + second], want, "{bytes:?} {cut}");
+    same(rt, &result, &CoderResult::InputEmpty, &name);
+    same(rt, &&dst[..first + second], &want, &name);
 }
 
-/// An encoding, bytes, and their text as code units.
+// An encoding, bytes, and their text as code units.
 type UnitsRow = (Encoding, &'static [u8], &'static [u16]);
 
 const UNITS: [UnitsRow; 6] = [

@@ -24,7 +24,7 @@ fn check(
     same(rt, &&dst[..answer.2], &bytes, &text);
 }
 
-/// An index of each kind that the rows need, by few pairs of a place and a scalar.
+// An index of each kind that the rows need, by few pairs of a place and a scalar.
 const INDEXES: [(IndexKind, &[(u32, u32)]); 5] = [
     (IndexKind::EucKr, &[(8273, 0x416)]),
     (IndexKind::Jis0208, &[(571, 0x416)]),
@@ -33,17 +33,23 @@ const INDEXES: [(IndexKind, &[(u32, u32)]); 5] = [
     (IndexKind::Gb18030Ranges, &[(0, 0x80), (189_000, 0x1_0000)]),
 ];
 
+// Those of gb18030, whose rows give the euro sign two bytes.
+const EURO: [(IndexKind, &[(u32, u32)]); 2] = [
+    (IndexKind::Gb18030, &[(6432, 0x20AC)]),
+    (IndexKind::Gb18030Ranges, &[(0, 0x80), (189_000, 0x1_0000)]),
+];
+
 // Tables with these indexes.
-fn indexed(alloc: Global) -> Result<Tables, Fail> {
+fn indexed(alloc: Global, indexes: &[(IndexKind, &'static [(u32, u32)])]) -> Result<Tables, Fail> {
     let mut tables = Tables::new();
-    for index in &INDEXES {
+    for index in indexes {
         let (kind, pairs) = *index;
         tables.add(alloc, kind, pairs).map_err(|_| "no index")?;
     }
     Ok(tables)
 }
 
-/// An encoding, text, its bytes, and how the call ends.
+// An encoding, text, its bytes, and how the call ends.
 type Row = (Encoding, &'static str, &'static [u8], EncoderResult);
 
 const ROWS: [Row; 12] = [
@@ -68,48 +74,53 @@ const ROWS: [Row; 12] = [
 
 #[test]
 fn writes_bytes(rt: HostRuntime) -> Result<(), Fail> {
-    let tables = indexed(rt.alloc())?;
+    let tables = indexed(rt.alloc(), &INDEXES)?;
     for row in &ROWS {
         let (encoding, text, bytes, end) = *row;
         check(&rt, &tables, encoding, text, bytes, end);
     }
-    let mut euro = Tables::new();
-    let ranges = [(0, 0x80), (189_000, 0x1_0000)];
-    assert_eq!(rt;
-        euro.add(rt.alloc(), IndexKind::Gb18030, &[(6432, 0x20AC)]),
-        Ok(())
-    );
-    assert_eq!(rt;
-        euro.add(rt.alloc(), IndexKind::Gb18030Ranges, &ranges),
-        Ok(())
-    );
-    check(
-        &rt,
-        &euro,
-        Encoding::Gb18030,
-        "\u{20ac}",
-        b"\xa2\xe3",
-        InputEmpty,
-    );
+    let euro = indexed(rt.alloc(), &EURO)?;
+    let bytes = b"\xa2\xe3".as_slice();
+    check(&rt, &euro, Encoding::Gb18030, "\u{20ac}", bytes, InputEmpty);
     Ok(())
+}
+
+// Encodes text from UTF-16, and compares the answer and the bytes.
+fn check_units(
+    rt: &impl Abort,
+    encoder: &mut Encoder,
+    units: &[u16],
+    end: EncoderResult,
+    read: usize,
+    bytes: &[u8],
+) {
+    let mut dst = [0; 4];
+    let answer = encoder.encode_from_utf16_without_replacement(units, &mut dst, true);
+    same(rt, &answer, &(end, read, bytes.len()), &units);
+    same(rt, &&dst[..answer.2], &bytes, &units);
 }
 
 #[test]
 fn reads_utf_16(rt: HostRuntime) {
     let tables = Tables::new();
-    let mut dst = [0; 4];
     let mut encoder = Encoder::new(Encoding::Windows1252, &tables);
-    let wrong = encoder.encode_from_utf16_without_replacement(&[0xD800, 0x61], &mut dst, true);
-    assert_eq!(rt; wrong, (Unmappable('\u{fffd}'), 1, 0));
-    let end = encoder.encode_from_utf16_without_replacement(&[0x61, 0x20AC], &mut dst, true);
-    assert_eq!(rt; end, (InputEmpty, 2, 2));
-    assert_eq!(rt; &dst[..2], b"a\x80".as_slice());
+    let wrong = Unmappable('\u{fffd}');
+    check_units(&rt, &mut encoder, &[0xD800, 0x61], wrong, 1, b"");
+    check_units(&rt, &mut encoder, &[0x61, 0x20AC], InputEmpty, 2, b"a\x80");
 }
+
+// An encoding, and whether it has an encoder.
+const ENCODERS: [(Encoding, bool); 4] = [
+    (Encoding::Big5, false),
+    (Encoding::ShiftJis, false),
+    (Encoding::Iso2022Jp, false),
+    (Encoding::Iso8859_8I, true),
+];
 
 #[test]
 fn has_no_encoder_of_three(rt: HostRuntime) {
-    for encoding in [Encoding::Big5, Encoding::ShiftJis, Encoding::Iso2022Jp] {
-        assert!(rt; !Encoder::can(encoding));
+    for row in &ENCODERS {
+        let (encoding, can) = *row;
+        same(&rt, &Encoder::can(encoding), &can, &encoding);
     }
-    assert!(rt; Encoder::can(Encoding::Iso8859_8I));
 }

@@ -2,7 +2,7 @@ use super::*;
 use crate::testing::same;
 use std::process::Abort;
 
-/// An encoding, its name, and whether it needs no index.
+// An encoding, its name, and whether it needs no index.
 type NameRow = (Encoding, &'static str, bool);
 
 const NAMES: [NameRow; 6] = [
@@ -33,7 +33,7 @@ fn names_encodings(rt: HostRuntime) {
     }
 }
 
-/// A label, and its encoding.
+// A label, and its encoding.
 type LabelRow = (&'static [u8], Option<Encoding>);
 
 const LABELS: [LabelRow; 8] = [
@@ -59,7 +59,7 @@ fn compares_labels_without_case_and_white_space(rt: HostRuntime) {
     }
 }
 
-/// Bytes, and the encoding and the length of the mark at their front.
+// Bytes, and the encoding and the length of the mark at their front.
 type MarkRow = (&'static [u8], Option<(Encoding, usize)>);
 
 const MARKS: [MarkRow; 5] = [

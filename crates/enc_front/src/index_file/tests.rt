@@ -3,7 +3,7 @@ use crate::testing::same;
 use std::process::Abort;
 use std::test::Fail;
 
-/// The text of an index file, and its pairs.
+// The text of an index file, and its pairs.
 type PairsRow = (&'static [u8], &'static [(u32, u32)]);
 
 const PAIRS: [PairsRow; 5] = [
@@ -40,7 +40,7 @@ fn reads_pairs(rt: HostRuntime) -> Result<(), Fail> {
     Ok(())
 }
 
-/// The text of an index file, and its first bad line.
+// The text of an index file, and its first bad line.
 type BadRow = (&'static [u8], usize);
 
 const BAD: [BadRow; 12] = [
@@ -71,14 +71,15 @@ fn counts_lines_to_the_first_bad_one(rt: HostRuntime) {
     }
 }
 
+fn check_text(rt: &impl Abort, alloc: Global, error: &IndexError, want: &str) -> Result<(), Fail> {
+    let text = format!(in alloc; "{error}")?;
+    same(rt, &text.as_str(), &want, &want);
+    Ok(())
+}
+
 #[test]
 fn shows_faults(rt: HostRuntime) -> Result<(), Fail> {
-    let line = format!(in rt.alloc(); "{}", IndexError::BadLine(7))?;
-    assert_eq!(rt;
-        line.as_str(),
-        "line 7 is no pair of a place and a scalar value"
-    );
-    let memory = format!(in rt.alloc(); "{}", IndexError::Memory)?;
-    assert_eq!(rt; memory.as_str(), "no memory");
-    Ok(())
+    let line = "line 7 is no pair of a place and a scalar value";
+    check_text(&rt, rt.alloc(), &IndexError::BadLine(7), line)?;
+    check_text(&rt, rt.alloc(), &IndexError::Memory, "no memory")
 }

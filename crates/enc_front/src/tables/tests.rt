@@ -9,8 +9,8 @@ use std::test::Fail;
 // A kind, pairs, the first faulty one, and its first fault.
 type Row = (IndexKind, &'static [(u32, u32)], usize, Why);
 
-/// Each fault in the first and in the second row, the first of several, and how many places there
-/// are.
+// Each fault in the first and in the second row, the first of several, and how many places there
+// are.
 const FAULTS: [Row; 27] = [
     (EucKr, &[(23_940, 0x4E00)], 0, Why::Place),
     (EucKr, &[(23_939, 0x4E00), (23_940, 0x4E00)], 1, Why::Place),
@@ -88,19 +88,43 @@ fn names_the_first_fault(rt: HostRuntime) {
     }
 }
 
+// A kind, pairs, whether they are taken, an encoding that has its indexes then, and whether it had
+// them before.
+type Step = (IndexKind, &'static [(u32, u32)], bool, Encoding, bool);
+
+const STEPS: [Step; 4] = [
+    (Big5, &[], true, Encoding::Big5, false),
+    (Big5, &[(0, 0)], false, Encoding::Big5, true),
+    (Jis0208, &[], true, Encoding::ShiftJis, false),
+    (Jis0212, &[], true, Encoding::EucJp, false),
+];
+
+// Adds an index, which is taken or else refused as the second one of its kind.
+fn check_add(
+    rt: &impl Abort,
+    alloc: Global,
+    tables: &mut Tables,
+    kind: IndexKind,
+    pairs: &[(u32, u32)],
+    is_taken: bool,
+) {
+    let want = if is_taken {
+        Ok(())
+    } else {
+        Err(TableError::AlreadyThere(kind))
+    };
+    same(rt, &tables.add(alloc, kind, pairs), &want, &kind);
+}
+
 #[test]
 fn takes_each_kind_once(rt: HostRuntime) {
     let mut tables = Tables::new();
-    assert!(rt; !tables.has(Encoding::Big5));
-    assert_eq!(rt; tables.add(rt.alloc(), IndexKind::Big5, &[]), Ok(()));
-    assert!(rt; tables.has(Encoding::Big5));
-    let there = Err(TableError::AlreadyThere(IndexKind::Big5));
-    assert_eq!(rt; tables.add(rt.alloc(), IndexKind::Big5, &[(0, 0)]), there);
-    assert_eq!(rt; tables.add(rt.alloc(), IndexKind::Jis0208, &[]), Ok(()));
-    assert!(rt; tables.has(Encoding::ShiftJis));
-    assert!(rt; !tables.has(Encoding::EucJp));
-    assert_eq!(rt; tables.add(rt.alloc(), IndexKind::Jis0212, &[]), Ok(()));
-    assert!(rt; tables.has(Encoding::EucJp));
+    for step in &STEPS {
+        let (kind, pairs, is_taken, encoding, is_there) = *step;
+        same(&rt, &tables.has(encoding), &is_there, &encoding);
+        check_add(&rt, rt.alloc(), &mut tables, kind, pairs, is_taken);
+        same(&rt, &tables.has(encoding), &true, &encoding);
+    }
     assert!(rt; !tables.has(Encoding::Gb18030));
 }
 
@@ -138,12 +162,11 @@ fn check_places<L: Lookup>(rt: &impl Abort, index: &L, rows: &[Place]) {
 fn finds_places(rt: HostRuntime) -> Result<(), Fail> {
     let mut tables = Tables::new();
     let pairs = [(11_142, 0x416), (9, 0x416), (0, 0x2_0000)];
-    assert_eq!(rt; tables.add(rt.alloc(), IndexKind::Big5, &pairs), Ok(()));
+    check_add(&rt, rt.alloc(), &mut tables, Big5, &pairs, true);
     let index = tables.index(IndexKind::Big5).ok_or("no index")?;
     check_places(&rt, index, &FLAT);
     let pairs = [(0, 0x80), (36, 0xA5), (39_394, 0xA6), (189_000, 0x1_0000)];
-    let added = tables.add(rt.alloc(), IndexKind::Gb18030Ranges, &pairs);
-    assert_eq!(rt; added, Ok(()));
+    check_add(&rt, rt.alloc(), &mut tables, Gb18030Ranges, &pairs, true);
     let ranges = tables.ranges().ok_or("no ranges")?;
     check_places(&rt, ranges, &RANGES);
     Ok(())
@@ -167,8 +190,7 @@ fn check_scalar<L: Lookup>(rt: &impl Abort, index: &L, place: u32, want: Option<
 fn looks_places_up(rt: HostRuntime) -> Result<(), Fail> {
     let mut tables = Tables::new();
     let pairs = [(0, 0x80), (36, 0xA5), (189_000, 0x1_0000)];
-    let added = tables.add(rt.alloc(), IndexKind::Gb18030Ranges, &pairs);
-    assert_eq!(rt; added, Ok(()));
+    check_add(&rt, rt.alloc(), &mut tables, Gb18030Ranges, &pairs, true);
     let ranges = tables.ranges().ok_or("no ranges")?;
     for row in &SCALARS {
         let (place, want) = *row;

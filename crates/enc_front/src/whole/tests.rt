@@ -1,33 +1,73 @@
 use super::*;
 use crate::charset::Charset;
+use crate::testing::same;
+use std::process::Abort;
 use std::test::Fail;
+
+fn check_room(rt: &impl Abort, decoder: &Decoder, length: usize, want: Option<usize>) {
+    same(rt, &decoder.max_utf8_buffer_length(length), &want, &length);
+}
 
 #[test]
 fn rooms(rt: HostRuntime) {
     let tables = Tables::new();
-    let decoder = Decoder::new(Encoding::Utf8, &tables);
-    assert_eq!(rt; decoder.max_utf8_buffer_length(2), Some(19));
-    assert_eq!(rt; decoder.max_utf8_buffer_length(usize::MAX), None);
-    let mut owing = Decoder::new(Encoding::Utf8, &tables);
-    let mut small = [0u8; 1];
-    owing.decode_to_utf8(b"\xff\xff", &mut small, false);
-    assert!(rt; owing.owes());
-    assert_eq!(rt; owing.max_utf8_buffer_length(2), Some(22));
+    let mut decoder = Decoder::new(Encoding::Utf8, &tables);
+    check_room(&rt, &decoder, 2, Some(19));
+    check_room(&rt, &decoder, usize::MAX, None);
+    let mut small = [0; 1];
+    decoder.decode_to_utf8(b"\xff\xff", &mut small, false);
+    assert!(rt; decoder.owes());
+    check_room(&rt, &decoder, 2, Some(22));
+}
+
+// Whether an own mark is removed, an encoding, bytes, their text, and whether a unit is malformed.
+type Row = (bool, Encoding, &'static [u8], &'static str, bool);
+
+const ROWS: [Row; 3] = [
+    (true, Encoding::Utf8, b"\xef\xbb\xbf\xff", "\u{fffd}", true),
+    (false, Encoding::Utf8, b"\xef\xbb\xbf", "\u{feff}", false),
+    (
+        true,
+        Encoding::Utf16Le,
+        b"\xfe\xff\x41\x00",
+        "\u{fffe}A",
+        false,
+    ),
+];
+
+fn check(
+    rt: &impl Abort,
+    alloc: Global,
+    tables: &Tables,
+    how: (bool, Encoding),
+    bytes: &[u8],
+    want: (&str, bool),
+) -> Result<(), Fail> {
+    let (removes, encoding) = how;
+    assert!(rt; tables.has(encoding));
+    let (text, malformed) = if removes {
+        encoding.decode_with_bom_removal(alloc, tables, bytes)?
+    } else {
+        encoding.decode_without_bom_handling(alloc, tables, bytes)?
+    };
+    same(rt, &(text.as_str(), malformed), &want, &bytes);
+    Ok(())
 }
 
 #[test]
 fn whole_values(rt: HostRuntime) -> Result<(), Fail> {
     let tables = Tables::new();
-    let alloc = rt.alloc();
-    let removed = Encoding::Utf8.decode_with_bom_removal(alloc, &tables, b"\xef\xbb\xbf\xff")?;
-    assert_eq!(rt; removed.0.as_str(), "\u{fffd}");
-    assert!(rt; removed.1);
-    let kept = Encoding::Utf8.decode_without_bom_handling(alloc, &tables, b"\xef\xbb\xbf")?;
-    assert_eq!(rt; kept.0.as_str(), "\u{feff}");
-    assert!(rt; !kept.1);
-    let other = Encoding::Utf16Le.decode_with_bom_removal(alloc, &tables, b"\xfe\xff\x41\x00")?;
-    assert_eq!(rt; other.0.as_str(), "\u{fffe}A");
-    assert!(rt; !other.1);
+    for row in &ROWS {
+        let (removes, encoding, bytes, text, malformed) = *row;
+        check(
+            &rt,
+            rt.alloc(),
+            &tables,
+            (removes, encoding),
+            bytes,
+            (text, malformed),
+        )?;
+    }
     Ok(())
 }
 
@@ -38,6 +78,7 @@ fn appended_texts(rt: HostRuntime) -> Result<(), Fail> {
     let mut text = b"a".to_vec(rt.alloc())?;
     latin.append(b"\xe9", &tables, &mut text)?;
     Charset::append_ascii(b"b\xe9", &mut text)?;
-    assert_eq!(rt; text.as_slice(), "a\u{e9}b\u{fffd}".as_bytes());
+    let want = "a\u{e9}b\u{fffd}".as_bytes();
+    same(&rt, &text.as_slice(), &want, &"appended");
     Ok(())
 }
