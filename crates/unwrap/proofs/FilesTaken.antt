@@ -12,7 +12,6 @@ use Rattle.unwrap.specs.declared.status.Status.TheVariants.{Done, Header, Usage,
 use Rattle.unwrap.specs.Files.{file}
 use Rattle.unwrap.specs.Indexes.{Adds, IsOfFiles, MakesTables, Refused, OfMemory, OfShelf, OfFile}
 use Rattle.enc_front.specs.declared.encoding.Encoding.{Encoding}
-use Rattle.unwrap.specs.Commands.{named}
 use Rattle.unwrap.specs.Status.{Counts, IsBehindFiles, TellsTable}
 use Rattle.unwrap.specs.TablesOf.{FailsAt, Files, IfTold, IsFaultOfFile, IsShelfFailure, Named, TakesFiles, WithTables, calls_after, shelf_fault, tables_from, tables_of, then_on, with_file}
 use Rattle.unwrap.specs.Values.{file_view}

@@ -1,4 +1,4 @@
-//! What a command line asks for.
+//! What a command line asks for: the command of its first word, with its options.
 ghost use Rattle.unwrap.specs.Asked.{asked, asked_by, texts_of};
 ghost use Rattle.unwrap.specs.Commands.{Gives};
 
@@ -10,10 +10,10 @@ pub(crate) mod values;
 
 use crate::command_line::matched::Refusal;
 use crate::command_line::options::{Parts, QuotedOptions, StreamOptions};
-use crate::header::unwrap_asked;
-use crate::make::make_asked;
-use crate::quoted::{qp_decode_asked, qp_encode_asked};
-use crate::text::text_asked;
+use crate::run::make::make_asked;
+use crate::run::quoted::{qp_decode_asked, qp_encode_asked};
+use crate::run::text::text_asked;
+use crate::run::unwrap::unwrap_asked;
 use std::alloc::Global;
 use words::RecoverStrategy;
 

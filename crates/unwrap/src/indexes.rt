@@ -1,4 +1,4 @@
-//! The index files that the words name.
+//! The index files that the words name, fetched from the shelf and added in their order.
 ghost use Rattle.std.specs.Prelude.{◌≡◌, [], map};
 ghost use Rattle.enc_front.specs.Indexes.{indexes_of};
 ghost use Rattle.enc_io.specs.Faults.{count_after};

@@ -1,16 +1,16 @@
-//! Shows the encoded words of a mail header: RFC 2047.
+//! The program: takes the words of its command line, runs their command over standard input,
+//! standard output and the files of the folder, and ends with the command's status.
 #![tactic(auto)]
 
 ghost use Rattle.std.specs.Prelude.{◌≡◌, ◌≢◌, ◌⊎◌, IfErr};
 
+mod collected;
 mod command_line;
 mod deliver;
 pub mod devices;
 pub mod header;
 mod indexes;
-mod make;
 mod moving;
-mod quoted;
 pub mod run;
 pub mod status;
 pub mod text;

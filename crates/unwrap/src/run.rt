@@ -1,4 +1,4 @@
-//! Commands.
+//! Runs the command that the words ask for, and tells how it ended.
 ghost use Rattle.std.specs.Prelude.{◌≡◌, ◌⊎◌, None};
 ghost use Rattle.std.specs.Io.KnownBytes.{Appends};
 ghost use Rattle.enc_io.specs.Faults.{Rose};
@@ -12,17 +12,22 @@ ghost use Rattle.unwrap.specs.Status.{Counts, note_of};
 ghost use Rattle.unwrap.specs.Streams.{EndsText};
 ghost use Rattle.unwrap.specs.TablesOf.{TakesFiles};
 
+pub(crate) mod make;
+pub(crate) mod quoted;
+pub(crate) mod text;
+pub(crate) mod unwrap;
+
 use crate::command_line::matched::Refusal;
 use crate::command_line::{Command, command_of};
 use crate::deliver::deliver;
 use crate::devices::shelf::Shelf;
 use crate::devices::sink::Sink;
-use crate::header::show;
-use crate::make::write_made;
 use crate::moving::write_all;
-use crate::quoted::Quoted;
+use crate::run::make::write_made;
+use crate::run::quoted::Quoted;
+use crate::run::text::stream;
+use crate::run::unwrap::show;
 use crate::status::{Finish, Status};
-use crate::text::stream;
 use enc_io::Source;
 use std::alloc::Global;
 

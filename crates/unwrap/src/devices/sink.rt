@@ -1,4 +1,4 @@
-//! Where bytes go.
+//! Where bytes go: the trait of what takes bytes, which may fail, and counts calls and faults.
 ghost use Rattle.std.specs.Prelude.{◌≡◌, ℕ, ◌<◌, ◌≤◌, List, IsNone, IfOk, OnOk, OnErr, length};
 ghost use Rattle.std.specs.declared.option.Option.{Option};
 ghost use Rattle.std.specs.Io.{WritesAtMost};
