@@ -1,10 +1,19 @@
 //! The worked rows, as data.
-use super::{Fault, Note, Refusal, Row};
+use super::{Failing, Fault, Note, Refusal, Row};
 use crate::status::{IndexFault, ShelfFault, Status, TableFault};
 use enc_front::{Encoding, IndexKind, Why};
 use words::{EvaluatorError, ParserError};
 
-pub(super) const HEADERS: [Row; 24] = [
+pub(super) const TABLES: [&[Row]; 6] = [
+    &HEADERS,
+    &OPTIONS,
+    &QUOTED,
+    &TEXTS,
+    &INDEXED,
+    &ISO_2022_JP,
+];
+
+const HEADERS: [Row; 24] = [
     ("empty", "unwrap", b"", 0, b""),
     (
         "an address",
@@ -124,7 +133,7 @@ pub(super) const HEADERS: [Row; 24] = [
 // A word of 76 bytes.
 const LONG: &[u8] = b"=?ISO-8859-1?Q?aaaaaaaaaaaaaaaaaaaaaaaaaaaaaaaaaaaaaaaaaaaaaaaaaaaaaaaaaaa?=";
 
-pub(super) const OPTIONS: [Row; 9] = [
+const OPTIONS: [Row; 9] = [
     ("at the limit", "unwrap --limit 3", b"abc", 0, b"abc"),
     ("past the limit", "unwrap --limit=3", b"abcd", 6, b""),
     ("no byte", "unwrap --limit=0", b"a", 6, b""),
@@ -164,7 +173,7 @@ pub(super) const OPTIONS: [Row; 9] = [
 const DIGITS: &[u8] =
     b"01234567890123456789012345678901234567890123456789012345678901234567890123456";
 
-pub(super) const QUOTED: [Row; 16] = [
+const QUOTED: [Row; 16] = [
     (
         "a full line and more",
         "qp-encode --line=10",
@@ -237,7 +246,7 @@ pub(super) const QUOTED: [Row; 16] = [
     ("beyond ASCII", "qp-decode", b"a\xC3\xBFb", 0, b"ab"),
 ];
 
-pub(super) const TEXTS: [Row; 19] = [
+const TEXTS: [Row; 19] = [
     (
         "a cut unit",
         "text --buffer 4 --piece 1",
@@ -338,7 +347,7 @@ pub(super) const TEXTS: [Row; 19] = [
 ];
 
 // Rows whose encodings need an index.
-pub(super) const INDEXED: [Row; 13] = [
+const INDEXED: [Row; 13] = [
     (
         "gb18030, four bytes cut short",
         "text --encoding gb18030 gb18030=ideograph gb18030-ranges=empty",
@@ -435,7 +444,7 @@ pub(super) const INDEXED: [Row; 13] = [
 // ISO-2022-JP over an index whose place 283 is U+3042.
 const JIS: &str = "text --encoding=iso-2022-jp --buffer=4 --piece=1 jis0208=kana";
 
-pub(super) const ISO_2022_JP: [Row; 8] = [
+const ISO_2022_JP: [Row; 8] = [
     ("two bytes", JIS, b"\x1B$B$\"\x1B(B", 0, b"\xE3\x81\x82"),
     ("Roman", JIS, b"\x1B(J\x5C\x7E", 0, b"\xC2\xA5\xE2\x80\xBE"),
     ("katakana", JIS, b"\x1B(I1", 0, b"\xEF\xBD\xB1"),
@@ -642,6 +651,15 @@ pub(super) const FILES: [Refusal; 15] = [
     ),
 ];
 
+// Over a sink whose call of this number fails; a fifth call doesn't come.
+pub(super) const FAILING: [Failing; 5] = [
+    (1, Status::WriteFault, b""),
+    (2, Status::WriteFault, b"a"),
+    (3, Status::WriteFault, b"ab"),
+    (4, Status::WriteFault, b"ab "),
+    (5, Status::Done, b"ab c"),
+];
+
 // Over a shelf whose call of this number fails.
 pub(super) const FETCHES: [(u64, Status); 3] = [
     (
@@ -668,14 +686,15 @@ pub(super) const FETCHES: [(u64, Status); 3] = [
 ];
 
 // Over a shelf of a file of the greatest length, and of one that is longer.
-pub(super) const LENGTHS: [(&str, Status); 3] = [
-    ("text --encoding=big5 big5=full", Status::Done),
+pub(super) const LENGTHS: [(&str, Status, &[u8]); 3] = [
+    ("text --encoding=big5 big5=full", Status::Done, b"a"),
     (
         "unwrap big5=full euc-kr=long",
         Status::Shelf(ShelfFault {
             file: 1,
             too_long: true,
         }),
+        b"",
     ),
     (
         "unwrap big5=long euc-kr=none",
@@ -683,6 +702,7 @@ pub(super) const LENGTHS: [(&str, Status); 3] = [
             file: 0,
             too_long: true,
         }),
+        b"",
     ),
 ];
 

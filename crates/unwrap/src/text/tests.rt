@@ -1,12 +1,12 @@
 //! What no clause says: which bytes are written over devices that fail, and how a source is asked.
-ghost use Rattle.std.specs.Prelude.{◌≤◌};
 
 use crate::devices::memory::MemorySink;
 use crate::header::unwrap_header;
+use crate::tests::{same, sink_of, source_of};
 use crate::text::{CopyFault, copy_text};
 use enc_front::{Decoder, Encoding, Tables};
 use enc_io::{DecodeReaderBytes, DecodeReaderBytesBuilder, Failed, MemorySource, Source};
-use std::alloc::{AllocError, Global};
+use std::alloc::Global;
 use std::process::Abort;
 use std::test::Fail;
 use words::RecoverStrategy;
@@ -80,60 +80,66 @@ fn reader_of<'t>(
     tables: &'t Tables,
     failing: u64,
 ) -> Result<DecodeReaderBytes<'t, MemorySource>, Fail> {
-    let bytes = Vec::from_slice(alloc, STREAM)?;
-    let source = MemorySource::new(bytes, 1, vec![in alloc; failing]?);
+    let source = source_of(alloc, STREAM, 1, failing)?;
     let built = DecodeReaderBytesBuilder::new().build(alloc, tables, source);
     Ok(built.map_err(|_| "not built")?)
 }
 
-// A sink with room for the text, which takes so many bytes a call and fails at this one.
-fn sink_of(alloc: Global, step: usize, failing: u64) -> Result<MemorySink, AllocError>
-    requires { 1 ≤ step }
-{
-    let room = vec![in alloc; 0u8; 16]?;
-    Ok(MemorySink::new(room, step, vec![in alloc; failing]?))
+// What a copy in pieces of three bytes answers.
+fn copied(
+    reader: &mut DecodeReaderBytes<'_, MemorySource>,
+    out: &mut MemorySink,
+) -> Result<u64, CopyFault> {
+    let mut piece = [0; 3];
+    copy_text(reader, &mut piece, out)
 }
 
-fn check_read(rt: &impl Abort, alloc: Global, tables: &Tables, call: u64) -> Result<(), Fail> {
-    let mut reader = reader_of(alloc, tables, call)?;
-    let mut out = sink_of(alloc, 16, 0)?;
-    let mut piece = [0; 3];
-    // Six calls give the bytes and the seventh the end, so the eighth doesn't come.
-    if call < 8 {
-        let copied = copy_text(&mut reader, &mut piece, &mut out);
-        assert_eq!(rt; copied, Err(CopyFault::ReadFault), "{call}");
-    }
-    let copied = copy_text(&mut reader, &mut piece, &mut out);
-    assert!(rt; copied.is_ok(), "{call}");
-    assert_eq!(rt; out.taken(), TEXT, "{call}");
+fn check_read(
+    rt: &impl Abort,
+    alloc: Global,
+    call: u64,
+    want: Result<u64, CopyFault>,
+) -> Result<(), Fail> {
+    let tables = Tables::new();
+    let mut reader = reader_of(alloc, &tables, call)?;
+    let mut out = sink_of(alloc, 16, 16, 0)?;
+    let first = copied(&mut reader, &mut out);
+    same(rt, &first, &want, &call);
+    let rest = copied(&mut reader, &mut out);
+    same(rt, &rest.is_ok(), &true, &call);
+    same(rt, &out.taken(), &TEXT, &call);
     Ok(())
 }
 
+// Six calls give the bytes and the seventh the end, so the eighth doesn't come.
 #[test]
 fn goes_on_behind_each_failed_read(rt: HostRuntime) -> Result<(), Fail> {
-    let tables = Tables::new();
-    for call in 1..9 {
-        check_read(&rt, rt.alloc(), &tables, call)?;
+    for call in 1..8 {
+        check_read(&rt, rt.alloc(), call, Err(CopyFault::ReadFault))?;
     }
-    Ok(())
+    check_read(&rt, rt.alloc(), 8, Ok(4))
 }
+
+// Calls of a sink that fail, and what was written before.
+const WRITES: [(u64, &[u8]); 4] = [(1, b""), (2, b"a"), (3, b"a\xEF"), (4, b"a\xEF\xBF")];
 
 fn check_write(rt: &impl Abort, alloc: Global, call: u64, front: &[u8]) -> Result<(), Fail> {
     let tables = Tables::new();
     let mut reader = reader_of(alloc, &tables, 0)?;
-    let mut out = sink_of(alloc, 1, call)?;
-    let copied = copy_text(&mut reader, &mut [0; 3], &mut out);
-    assert_eq!(rt; copied, Err(CopyFault::WriteFault), "{call}");
-    assert_eq!(rt; out.taken(), front, "{call}");
+    let mut out = sink_of(alloc, 16, 1, call)?;
+    let answer = copied(&mut reader, &mut out);
+    same(rt, &answer, &Err(CopyFault::WriteFault), &call);
+    same(rt, &out.taken(), &front, &call);
     Ok(())
 }
 
 #[test]
 fn stops_at_each_failed_write(rt: HostRuntime) -> Result<(), Fail> {
-    check_write(&rt, rt.alloc(), 1, b"")?;
-    check_write(&rt, rt.alloc(), 2, b"a")?;
-    check_write(&rt, rt.alloc(), 3, b"a\xEF")?;
-    check_write(&rt, rt.alloc(), 4, b"a\xEF\xBF")
+    for row in &WRITES {
+        let (call, front) = *row;
+        check_write(&rt, rt.alloc(), call, front)?;
+    }
+    Ok(())
 }
 
 // The header text of a stream, read through a buffer of four bytes; and the source behind it.
@@ -160,46 +166,64 @@ fn asks_for_a_buffer_at_most(rt: HostRuntime) -> Result<(), Fail> {
         calls: 0,
     };
     let (text, source) = text_of(rt.alloc(), source)?;
-    assert_eq!(rt; text.as_str(), "hello");
-    assert!(rt; source.longest <= 4);
+    same(&rt, &text.as_str(), &"hello", &"a text");
+    same(&rt, &(source.longest <= 4), &true, &"longest");
     Ok(())
 }
 
 #[test]
 fn asks_no_source_behind_its_end(rt: HostRuntime) -> Result<(), Fail> {
     let (text, source) = text_of(rt.alloc(), Again { calls: 0 })?;
-    assert_eq!(rt; text.as_str(), "ab");
-    assert_eq!(rt; source.calls, 2);
+    same(&rt, &text.as_str(), &"ab", &"a text");
+    same(&rt, &source.calls, &2, &"calls");
+    Ok(())
+}
+
+// Decodes all of a piece, and appends its text.
+fn decode_piece(
+    rt: &impl Abort,
+    decoder: &mut Decoder,
+    piece: &[u8],
+    last: bool,
+    text: &mut Vec<u8>,
+) -> Result<(), Fail> {
+    assert!(rt; !decoder.is_finished());
+    let mut dst = [0; 16];
+    let (_, read, written, _) = decoder.decode_to_utf8(piece, &mut dst, last);
+    text.extend_from_slice(&dst[..written])?;
+    same(rt, &read, &piece.len(), &piece);
     Ok(())
 }
 
 // Decodes the bytes cut at a place as windows-1252, which marks don't change here.
-fn check_cut(rt: &impl Abort, bytes: &[u8], cut: usize, text: &[u8]) {
+fn check_cut(
+    rt: &impl Abort,
+    alloc: Global,
+    bytes: &[u8],
+    cut: usize,
+    want: &[u8],
+) -> Result<(), Fail> {
+    assert!(rt; cut <= bytes.len());
     let tables = Tables::new();
     assert!(rt; tables.has(Encoding::Windows1252));
-    assert!(rt; cut <= bytes.len());
     let mut decoder = Decoder::new(Encoding::Windows1252, &tables);
-    let mut dst = [0; 16];
-    let (_, read, first, _) = decoder.decode_to_utf8(&bytes[..cut], &mut dst, false);
-    assert_eq!(rt; read, cut, "{bytes:?}");
-    assert!(rt; first <= 8);
-    assert!(rt; !decoder.is_finished());
-    let rest = &bytes[cut..];
-    let (_, read, second, _) = decoder.decode_to_utf8(rest, &mut dst[first..], true);
-    assert_eq!(rt; read, rest.len(), "{bytes:?} {cut}");
-    assert!(rt; second <= 8);
-    assert_eq!(rt; &dst[..first + second], text, "{bytes:?} {cut}");
+    let mut text = Vec::new(alloc);
+    decode_piece(rt, &mut decoder, &bytes[..cut], false, &mut text)?;
+    decode_piece(rt, &mut decoder, &bytes[cut..], true, &mut text)?;
+    same(rt, &text.as_slice(), &want, &cut);
+    Ok(())
 }
 
-fn check_cuts(rt: &impl Abort, bytes: &[u8], text: &[u8]) {
+fn check_cuts(rt: &impl Abort, alloc: Global, bytes: &[u8], want: &[u8]) -> Result<(), Fail> {
     for cut in 0..=bytes.len() {
-        check_cut(rt, bytes, cut, text);
+        check_cut(rt, alloc, bytes, cut, want)?;
     }
+    Ok(())
 }
 
 #[test]
-fn cut_marks_are_text(rt: HostRuntime) {
-    check_cuts(&rt, b"\xEF\xBBa", b"\xC3\xAF\xC2\xBBa");
-    check_cuts(&rt, b"\xFEa", b"\xC3\xBEa");
-    check_cuts(&rt, b"\xFF", b"\xC3\xBF");
+fn cut_marks_are_text(rt: HostRuntime) -> Result<(), Fail> {
+    check_cuts(&rt, rt.alloc(), b"\xEF\xBBa", b"\xC3\xAF\xC2\xBBa")?;
+    check_cuts(&rt, rt.alloc(), b"\xFEa", b"\xC3\xBEa")?;
+    check_cuts(&rt, rt.alloc(), b"\xFF", b"\xC3\xBF")
 }
