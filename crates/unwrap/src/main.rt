@@ -37,7 +37,7 @@ fn words_status(kind: ErrorKind) -> Status
     }
 }
 
-/// The words of the command line after the program's name.
+// The words of the command line after the program's name.
 ///
 /// # Errors
 ///

@@ -14,20 +14,20 @@ use std::test::Fail;
 mod devices;
 mod rows;
 
-/// A name, the words, the input, the process's status, and what is written; where the command
-/// fails, that is a prefix of it.
+// A name, the words, the input, the process's status, and what is written; where the command
+// fails, that is a prefix of it.
 type Row = (&'static str, &'static str, &'static [u8], u8, &'static [u8]);
 
-/// The words, how often the shelf is called, and the status; the source isn't called.
+// The words, how often the shelf is called, and the status; the source isn't called.
 type Refusal = (&'static str, u64, Status);
 
-/// A header, and the status of its first fault.
+// A header, and the status of its first fault.
 type Fault = (&'static [u8], Status);
 
-/// The words, the input, the calls of the source and of the sink that fail, and what is told.
+// The words, the input, the calls of the source and of the sink that fail, and what is told.
 type Note = (&'static str, &'static [u8], (u64, u64), &'static str);
 
-/// The call of the sink that fails, the status, and what is written.
+// The call of the sink that fails, the status, and what is written.
 type Failing = (u64, Status, &'static [u8]);
 
 // The files of the shelf by their names.

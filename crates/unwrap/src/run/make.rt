@@ -108,7 +108,7 @@ fn told(alloc: Global, input: usize, answer: Result<String, HeaderError>) -> Res
     }
 }
 
-/// A source in memory that never fails.
+// A source in memory that never fails.
 #[derive(Drop)]
 struct Unfailing {
     source: MemorySource,
@@ -147,7 +147,7 @@ impl Source for Unfailing {
     }
 }
 
-/// The line that tells of a header and its text; `input` is how many bytes the header has.
+// The line that tells of a header and its text; `input` is how many bytes the header has.
 #[derive(Drop)]
 struct Summary {
     input: usize,

@@ -14,7 +14,7 @@ use std::io::{Error, ErrorKind, Read, Write};
 use std::process::Abort;
 use std::test::Fail;
 
-/// A piece, and what a sink answers to it.
+// A piece, and what a sink answers to it.
 type Call = (&'static [u8], Result<usize, Failed>);
 
 fn check_write<K: Sink>(rt: &impl Abort, sink: &mut K, piece: &[u8], want: Result<usize, Failed>) {
@@ -62,7 +62,7 @@ fn memory_shelf(rt: HostRuntime) -> Result<(), Fail> {
     Ok(())
 }
 
-/// A writer that takes two bytes of each write into a vector, and fails to flush the second time.
+// A writer that takes two bytes of each write into a vector, and fails to flush the second time.
 #[derive(Drop)]
 struct Short {
     written: Vec<u8>,
@@ -85,7 +85,7 @@ impl Write for Short {
     }
 }
 
-/// A writer that takes nothing, and a reader that fails.
+// A writer that takes nothing, and a reader that fails.
 #[derive(Drop)]
 struct Closed;
 
