@@ -101,7 +101,8 @@ impl Sink for MemorySink {
     fn write(&mut self, piece: &[u8]) -> Result<usize, Failed>
         // As of every sink.
         ensures within { WritesAtMost result piece.now }
-        ensures appended { WriteAppends (Some self.old.taken) (Some self.new.taken) result piece.now }
+        ensures appended { WriteAppends (Some self.old.taken) (Some self.new.taken) result
+            piece.now }
         ensures some { IfOk result (λ n. 0 < length piece.now → 1 ≤ n) }
         ensures counted { OnOk result (self.new.faults ≡ self.old.faults) }
         ensures failed { OnErr result (Rose self.old.faults self.new.faults) }
