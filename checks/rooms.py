@@ -1,8 +1,8 @@
 """Which files of the crates stand on which, read from their `use` lines and paths,
 as the table "Rooms" of each crate's README: the files that name a file, the
 traits through which it is called besides, and its tests. These are the file
-x/tests.rt beside x.rt; where there is none, the tests that name x, or else those
-of the files that do. `rooms.py` compares, `rooms.py --write` writes the tables
+x/tests.rt beside x.rt; where there is none, the tests that name x and those of
+the files that do. `rooms.py` compares, `rooms.py --write` writes the tables
 anew."""
 
 import re
@@ -142,31 +142,32 @@ def has_one_room(crate):
     return root or all(module[0] == "tests" for module in TESTS[crate])
 
 
-def tests_of(place):
-    """The tests of a file, by the nearest of its callers that have some."""
+def beside(place):
+    """The file of tests of a file, where it has one."""
     crate, module = place
+    there = module + ("tests",)
+    return {(crate, there)} if module and there in TESTS[crate] else set()
+
+
+def tests_of(place):
+    """The tests of a file: its own, or those that name it and those of the files that do."""
+    crate, _ = place
+    named_there = TESTED.get(place, set())
     if has_one_room(crate):
-        named_there = {test for test in TESTED.get(place, ()) if test[0] == crate}
-        beside = {(crate, module + ("tests",))} if module + ("tests",) in TESTS[crate] else set()
-        return named_there | beside | {(crate, ("tests",))}
-    seen, now = {place}, [place]
+        own = {test for test in named_there if test[0] == crate}
+        return own | beside(place) | {(crate, ("tests",))}
+    if beside(place):
+        return beside(place)
+    found, seen, now = set(named_there), {place}, {place}
     while now:
-        found = set()
-        for crate, module in now:
-            beside = module + ("tests",)
-            if module and beside in TESTS[crate]:
-                found.add((crate, beside))
-            elif (crate, module) == place:
-                found |= TESTED.get(place, set())
+        now = {caller for one in now for caller in USED.get(one, set()) | THROUGH.get(one, set())}
+        now -= seen
+        seen |= now
+        for caller in now:
+            found |= beside(caller)
         if found:
-            own = {test for test in found if test[0] == place[0]}
-            return own or found
-        callers = set()
-        for one in now:
-            callers |= USED.get(one, set()) | THROUGH.get(one, set())
-        now = sorted(callers - seen)
-        seen |= callers
-    return set()
+            break
+    return {test for test in found if test[0] == crate} or found
 
 
 def table(crate):

@@ -385,7 +385,7 @@ fn check_units(
 // An encoding, bytes, and their text as code units.
 type UnitsRow = (Encoding, &'static [u8], &'static [u16]);
 
-const UNITS: [UnitsRow; 6] = [
+const UNITS: [UnitsRow; 11] = [
     (Utf16Le, b"\x00\xd8A\0", &[0xFFFD, 0x41]),
     (Utf8, b"\xed\xa0\x80", &[0xFFFD, 0xFFFD, 0xFFFD]),
     (Utf8, b"\xe2\x82A", &[0xFFFD, 0x41]),
@@ -400,15 +400,21 @@ const UNITS: [UnitsRow; 6] = [
         b"\xef\xbb\xbf\xf0\x9f\x98\x80",
         &[0xD83D, 0xDE00],
     ),
+    (EucKr, b"\xac\xa8", &[0x416]),
+    (Big5, b"\x88\x62", &[0xCA, 0x304]),
+    (EucJp, b"\xa7\xa8\x8f\xa2\xa1", &[0x416, 0x4E02]),
+    (Gb18030, b"\x90\x30\x81\x30\xa7\xa8", &[0xD800, 0xDC00, 0x416]),
+    (Iso2022Jp, b"\x1b\x24\x42\x24\x22", &[0x3042]),
 ];
 
 #[test]
-fn writes_utf_16_at_every_cut(rt: HostRuntime) {
-    let tables = Tables::new();
+fn writes_utf_16_at_every_cut(rt: HostRuntime) -> Result<(), Fail> {
+    let tables = indexed(rt.alloc())?;
     for row in &UNITS {
         let (encoding, bytes, want) = *row;
         for cut in 0..=bytes.len() {
             check_units(&rt, &tables, encoding, bytes, cut, want);
         }
     }
+    Ok(())
 }
