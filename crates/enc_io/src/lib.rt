@@ -25,4 +25,6 @@ pub use stream::StreamSource;
 pub use tiny::TinyTranscoder;
 
 #[cfg(test)]
+mod testing;
+#[cfg(test)]
 mod tests;

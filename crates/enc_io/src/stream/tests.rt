@@ -1,7 +1,9 @@
 //! A reader of std as a source.
 use super::*;
+use crate::testing::same;
 use std::io;
 use std::io::{Error, ErrorKind};
+use std::process::Abort;
 
 // A reader that gives two bytes and then fails.
 #[derive(Drop)]
@@ -21,19 +23,24 @@ impl Read for Broken {
     }
 }
 
+fn check<R: Read>(rt: &impl Abort, source: &mut StreamSource<R>, want: Result<&[u8], Failed>) {
+    let mut buf = [b'.'; 4];
+    let got = match source.read(&mut buf) {
+        Ok(count) => Ok(&buf[..count]),
+        Err(Failed) => Err(Failed),
+    };
+    same(rt, &got, &want, &want);
+}
+
 #[test]
 fn stream_source(rt: HostRuntime) {
-    let mut buf = [b'.'; 4];
     let mut source = StreamSource::new(b"abcdef".as_slice());
-    assert_eq!(rt; source.read(&mut buf), Ok(4));
-    assert_eq!(rt; buf.as_slice(), b"abcd".as_slice());
-    assert_eq!(rt; source.read(&mut buf), Ok(2));
-    assert_eq!(rt; &buf[..2], b"ef".as_slice());
-    assert_eq!(rt; source.read(&mut buf), Ok(0));
+    check(&rt, &mut source, Ok(b"abcd"));
+    check(&rt, &mut source, Ok(b"ef"));
+    check(&rt, &mut source, Ok(b""));
 
     let mut source = StreamSource::new(Broken { calls: 0 });
-    assert_eq!(rt; source.read(&mut buf), Ok(2));
-    assert_eq!(rt; &buf[..2], b"ok".as_slice());
-    assert_eq!(rt; source.read(&mut buf), Err(Failed));
-    assert_eq!(rt; source.read(&mut buf), Err(Failed));
+    check(&rt, &mut source, Ok(b"ok"));
+    check(&rt, &mut source, Err(Failed));
+    check(&rt, &mut source, Err(Failed));
 }
