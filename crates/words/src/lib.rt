@@ -8,6 +8,8 @@ pub mod laws;
 pub mod lexer;
 pub mod parser;
 mod strategy;
+#[cfg(test)]
+mod testing;
 
 pub use decoder::{Decoder, Error, decode};
 pub use evaluator::EvaluatorError;

@@ -1,8 +1,12 @@
 use super::*;
+use crate::testing::same;
+use std::process::Abort;
 use std::test::Fail;
 
 // A name, a text, and the octets that it stands for; `None` where it stands for none.
-const ROWS: [(&str, &[u8], Option<&[u8]>); 28] = [
+type Row = (&'static str, &'static [u8], Option<&'static [u8]>);
+
+const ROWS: [Row; 28] = [
     ("empty", b"", Some(b"")),
     ("one octet", b"Zg==", Some(b"f")),
     ("two octets", b"Zm8=", Some(b"fo")),
@@ -24,7 +28,9 @@ const ROWS: [(&str, &[u8], Option<&[u8]>); 28] = [
         "each letter",
         b"ABCDEFGHIJKLMNOPQRSTUVWXYZabcdefghijklmnopqrstuvwxyz0123456789+/",
         Some(
-            b"\x00\x10\x83\x10\x51\x87\x20\x92\x8b\x30\xd3\x8f\x41\x14\x93\x51\x55\x97\x61\x96\x9b\x71\xd7\x9f\x82\x18\xa3\x92\x59\xa7\xa2\x9a\xab\xb2\xdb\xaf\xc3\x1c\xb3\xd3\x5d\xb7\xe3\x9e\xbb\xf3\xdf\xbf",
+            b"\x00\x10\x83\x10\x51\x87\x20\x92\x8b\x30\xd3\x8f\x41\x14\x93\x51\
+            \x55\x97\x61\x96\x9b\x71\xd7\x9f\x82\x18\xa3\x92\x59\xa7\xa2\x9a\
+            \xab\xb2\xdb\xaf\xc3\x1c\xb3\xd3\x5d\xb7\xe3\x9e\xbb\xf3\xdf\xbf",
         ),
     ),
     ("no fours", b"c3R", None),
@@ -43,13 +49,29 @@ const ROWS: [(&str, &[u8], Option<&[u8]>); 28] = [
     ("a NUL", b"YWJ\x00", None),
 ];
 
+fn check(
+    rt: &impl Abort,
+    alloc: Global,
+    spare: &mut Vec<u8>,
+    name: &str,
+    text: &[u8],
+    want: Option<&[u8]>,
+) -> Result<(), Fail> {
+    let found = decode(alloc, text, spare)?;
+    let octets = match &found {
+        Some(octets) => Some(octets.as_slice()),
+        None => None,
+    };
+    same(rt, &octets, &want, &name);
+    Ok(())
+}
+
 #[test]
 fn values_of_texts(rt: HostRuntime) -> Result<(), Fail> {
     let mut spare = Vec::new(rt.alloc());
-    for (name, text, octets) in ROWS {
-        let found = decode(rt.alloc(), text, &mut spare)?;
-        let shown = found.as_ref().map(|value| value.as_slice());
-        assert_eq!(rt; shown, octets, "{name}");
+    for row in &ROWS {
+        let (name, text, octets) = *row;
+        check(&rt, rt.alloc(), &mut spare, name, text, octets)?;
     }
     Ok(())
 }

@@ -1,7 +1,10 @@
 use super::*;
 use crate::strategy::RecoverStrategy::{Abort, Decode, Skip};
+use crate::testing::same;
 use qp::QuotedPrintableError;
 use std::alloc::AllocError;
+use std::fmt::Debug;
+use std::process;
 use std::test::Fail;
 
 const WORD_75: &[u8] =
@@ -19,7 +22,9 @@ const WORD_X: &str =
     "=?ISO-8859-1?X?aaaaaaaaaaaaaaaaaaaaaaaaaaaaaaaaaaaaaaaaaaaaaaaaaaaaaaaaaaaa?=";
 
 // A name, a header, and its text under Abort.
-const ROWS: [(&str, &[u8], &str); 33] = [
+type Row = (&'static str, &'static [u8], &'static str);
+
+const ROWS: [Row; 33] = [
     ("empty", b"", ""),
     ("clear text alone", b"str with spaces", "str with spaces"),
     (
@@ -128,7 +133,15 @@ const ROWS: [(&str, &[u8], &str); 33] = [
 ];
 
 // A name, a strategy, a header, whether it has a text, and that text or else the printed error.
-const BY_STRATEGY: [(&str, RecoverStrategy, &str, bool, &str); 11] = [
+type StrategyRow = (
+    &'static str,
+    RecoverStrategy,
+    &'static str,
+    bool,
+    &'static str,
+);
+
+const BY_STRATEGY: [StrategyRow; 11] = [
     ("76 bytes, skipped", Skip, WORD_76, true, WORD_76),
     ("76 bytes, decoded", Decode, WORD_76, true, TEXT_76),
     ("a skipped field", Skip, WORD_X, true, WORD_X),
@@ -178,14 +191,21 @@ const BY_STRATEGY: [(&str, RecoverStrategy, &str, bool, &str); 11] = [
     (
         "too long words before other faults",
         Abort,
-        "=?a?QQ?a?= =?ISO-8859-1?Q?aaaaaaaaaaaaaaaaaaaaaaaaaaaaaaaaaaaaaaaaaaaaaaaaaaaaaaaaaaa?= =?a?B?c?= =?ISO-8859-1?X?aaaaaaaaaaaaaaaaaaaaaaaaaaaaaaaaaaaaaaaaaaaaaaaaaaaaaaaaaaaa?=",
+        "=?a?QQ?a?= \
+        =?ISO-8859-1?Q?aaaaaaaaaaaaaaaaaaaaaaaaaaaaaaaaaaaaaaaaaaaaaaaaaaaaaaaaaaa?= \
+        =?a?B?c?= \
+        =?ISO-8859-1?X?aaaaaaaaaaaaaaaaaaaaaaaaaaaaaaaaaaaaaaaaaaaaaaaaaaaaaaaaaaaa?=",
         false,
-        "Cannot parse the following encoded words, because they are too long: =?ISO-8859-1?Q?aaaaaaaaaaaaaaaaaaaaaaaaaaaaaaaaaaaaaaaaaaaaaaaaaaaaaaaaaaa?=, =?ISO-8859-1?X?aaaaaaaaaaaaaaaaaaaaaaaaaaaaaaaaaaaaaaaaaaaaaaaaaaaaaaaaaaaa?=",
+        "Cannot parse the following encoded words, because they are too long: \
+        =?ISO-8859-1?Q?aaaaaaaaaaaaaaaaaaaaaaaaaaaaaaaaaaaaaaaaaaaaaaaaaaaaaaaaaaa?=, \
+        =?ISO-8859-1?X?aaaaaaaaaaaaaaaaaaaaaaaaaaaaaaaaaaaaaaaaaaaaaaaaaaaaaaaaaaaa?=",
     ),
 ];
 
 // A header, and its printed error under Abort.
-const NOT_TEXT: [(&[u8], &str); 4] = [
+type FaultRow = (&'static [u8], &'static str);
+
+const NOT_TEXT: [FaultRow; 4] = [
     (b"=?a?B?c?= \xFF", "the base64 text is wrong"),
     (b"\xFF =?a?B?c?=", "clear text is not UTF-8 at byte 0"),
     (b"\xFF\xFE", "clear text is not UTF-8 at byte 0"),
@@ -208,41 +228,85 @@ fn shown(
     }
 }
 
+fn check(
+    rt: &impl process::Abort,
+    alloc: Global,
+    strategy: RecoverStrategy,
+    bytes: &[u8],
+    want: (bool, &str),
+    name: &impl Debug,
+) -> Result<(), Fail> {
+    let (is_text, found) = shown(alloc, strategy, bytes)?;
+    same(rt, &(is_text, found.as_str()), &want, name);
+    Ok(())
+}
+
 #[test]
 fn texts(rt: HostRuntime) -> Result<(), Fail> {
-    for (name, bytes, text) in ROWS {
-        let (is_text, found) = shown(rt.alloc(), Abort, bytes)?;
-        assert!(rt; is_text && found.as_str() == text, "{name}");
+    for row in &ROWS {
+        let (name, bytes, text) = *row;
+        check(&rt, rt.alloc(), Abort, bytes, (true, text), &name)?;
     }
-    for (name, strategy, header, wanted, text) in BY_STRATEGY {
-        let (is_text, found) = shown(rt.alloc(), strategy, header.as_bytes())?;
-        assert!(rt; is_text == wanted && found.as_str() == text, "{name}");
+    for row in &BY_STRATEGY {
+        let (name, strategy, header, is_text, text) = *row;
+        let want = (is_text, text);
+        check(&rt, rt.alloc(), strategy, header.as_bytes(), want, &name)?;
     }
-    for (bytes, text) in NOT_TEXT {
-        let (is_text, found) = shown(rt.alloc(), Abort, bytes)?;
-        assert!(rt; !is_text && found.as_str() == text, "{bytes:?}");
+    for row in &NOT_TEXT {
+        let (bytes, text) = *row;
+        check(&rt, rt.alloc(), Abort, bytes, (false, text), &bytes)?;
     }
+    Ok(())
+}
+
+fn check_error(
+    rt: &impl process::Abort,
+    alloc: Global,
+    error: &Error,
+    want: &str,
+) -> Result<(), Fail> {
+    let text = format!(in alloc; "{error}")?;
+    same(rt, &text.as_str(), &want, &want);
     Ok(())
 }
 
 #[test]
 fn other_calls(rt: HostRuntime) -> Result<(), Fail> {
     let alloc = rt.alloc();
-    let text = decode(alloc, &Tables::new(), b"=?UTF-8?Q?str?=")?;
-    assert_eq!(rt; text.as_str(), "str");
+    let tables = Tables::new();
+    let text = decode(alloc, &tables, b"=?UTF-8?Q?str?=")?;
+    same(&rt, &text.as_str(), &"str", &"text");
+    let wrong = decode(alloc, &tables, b"=?a?B?c?=").err();
     let base64 = Error::Evaluator(EvaluatorError::DecodeBase64Error);
-    assert!(rt; decode(alloc, &Tables::new(), b"=?a?B?c?=") == Err(base64));
-    assert!(rt; Decoder::default() == Decoder::new());
-    assert_eq!(rt; Error::from(LexerError::Memory), Error::Memory);
-    assert_eq!(rt; Error::from(ParserError::Memory), Error::Memory);
-    assert_eq!(rt; Error::from(EvaluatorError::Memory), Error::Memory);
+    same(&rt, &wrong, &Some(base64), &"fault");
+    same(&rt, &Decoder::default(), &Decoder::new(), &"default");
+    Ok(())
+}
+
+#[test]
+fn other_errors(rt: HostRuntime) -> Result<(), Fail> {
+    same(
+        &rt,
+        &Error::from(LexerError::Memory),
+        &Error::Memory,
+        &"lexer",
+    );
+    same(
+        &rt,
+        &Error::from(ParserError::Memory),
+        &Error::Memory,
+        &"parser",
+    );
+    same(
+        &rt,
+        &Error::from(EvaluatorError::Memory),
+        &Error::Memory,
+        &"evaluator",
+    );
     let quoted = Error::Evaluator(EvaluatorError::DecodeQuotedPrintableError(
         QuotedPrintableError::IncompleteHexOctet,
     ));
-    assert_eq!(rt;
-        quoted.to_string(alloc)?.as_str(),
-        "A '=' followed by only one character was found in the input"
-    );
-    assert_eq!(rt; Error::Memory.to_string(alloc)?.as_str(), "no memory");
-    Ok(())
+    let text = "A '=' followed by only one character was found in the input";
+    check_error(&rt, rt.alloc(), &quoted, text)?;
+    check_error(&rt, rt.alloc(), &Error::Memory, "no memory")
 }

@@ -1,5 +1,7 @@
 use super::*;
 use crate::strategy::RecoverStrategy::{Abort, Decode, Skip};
+use crate::testing::same;
+use std::process;
 use std::test::Fail;
 
 const WORD_75: &[u8] =
@@ -8,34 +10,39 @@ const WORD_75: &[u8] =
 const WORD_76: &[u8] =
     b"=?ISO-8859-1?Q?aaaaaaaaaaaaaaaaaaaaaaaaaaaaaaaaaaaaaaaaaaaaaaaaaaaaaaaaaaa?=";
 
-const TEXT_76: &[u8] = b"aaaaaaaaaaaaaaaaaaaaaaaaaaaaaaaaaaaaaaaaaaaaaaaaaaaaaaaaaaa";
+fn push_two(name: &mut Vec<u8>, mark: &[u8], bytes: &[u8]) -> Result<(), AllocError> {
+    name.extend_from_slice(mark)?;
+    name.extend_from_slice(bytes)
+}
 
-// The tokens as a row names them: clear text in brackets, a word as its three fields in parentheses.
+// A token as a row names it: clear text in brackets, a word as its three fields in parentheses.
+fn push_named(name: &mut Vec<u8>, token: &Token) -> Result<(), AllocError> {
+    match token {
+        Token::ClearText(text) => {
+            push_two(name, b"[", text)?;
+            push_two(name, b"]", b"")
+        }
+        Token::EncodedWord(word) => {
+            push_two(name, b"(", &word.charset)?;
+            push_two(name, b",", &word.encoding)?;
+            push_two(name, b",", &word.encoded_text)?;
+            push_two(name, b")", b"")
+        }
+    }
+}
+
 fn named(alloc: Global, tokens: &[Token]) -> Result<Vec<u8>, AllocError> {
     let mut name = Vec::new(alloc);
     for token in tokens {
-        match token {
-            Token::ClearText(text) => {
-                name.extend_from_slice(b"[")?;
-                name.extend_from_slice(text)?;
-                name.extend_from_slice(b"]")?;
-            }
-            Token::EncodedWord(word) => {
-                name.extend_from_slice(b"(")?;
-                name.extend_from_slice(&word.charset)?;
-                name.extend_from_slice(b",")?;
-                name.extend_from_slice(&word.encoding)?;
-                name.extend_from_slice(b",")?;
-                name.extend_from_slice(&word.encoded_text)?;
-                name.extend_from_slice(b")")?;
-            }
-        }
+        push_named(&mut name, token)?;
     }
     Ok(name)
 }
 
 // A name, a header, the strategy, and the header's tokens.
-const ROWS: [(&str, &[u8], RecoverStrategy, &[u8]); 22] = [
+type Row = (&'static str, &'static [u8], RecoverStrategy, &'static [u8]);
+
+const ROWS: [Row; 22] = [
     ("empty", b"", Abort, b""),
     (
         "clear text",
@@ -153,9 +160,13 @@ const ROWS: [(&str, &[u8], RecoverStrategy, &[u8]); 22] = [
     ),
     (
         "a skipped word between words",
-        b"=?UTF-8?Q?a?= =?ISO-8859-1?Q?aaaaaaaaaaaaaaaaaaaaaaaaaaaaaaaaaaaaaaaaaaaaaaaaaaaaaaaaaaa?= =?UTF-8?Q?b?=",
+        b"=?UTF-8?Q?a?= \
+        =?ISO-8859-1?Q?aaaaaaaaaaaaaaaaaaaaaaaaaaaaaaaaaaaaaaaaaaaaaaaaaaaaaaaaaaa?= \
+        =?UTF-8?Q?b?=",
         Skip,
-        b"(UTF-8,Q,a)[=?ISO-8859-1?Q?aaaaaaaaaaaaaaaaaaaaaaaaaaaaaaaaaaaaaaaaaaaaaaaaaaaaaaaaaaa?=](UTF-8,Q,b)",
+        b"(UTF-8,Q,a)\
+        [=?ISO-8859-1?Q?aaaaaaaaaaaaaaaaaaaaaaaaaaaaaaaaaaaaaaaaaaaaaaaaaaaaaaaaaaa?=]\
+        (UTF-8,Q,b)",
     ),
     (
         "a skipped word between clear text",
@@ -165,57 +176,120 @@ const ROWS: [(&str, &[u8], RecoverStrategy, &[u8]); 22] = [
     ),
 ];
 
+fn check(
+    rt: &impl process::Abort,
+    alloc: Global,
+    name: &str,
+    bytes: &[u8],
+    strategy: RecoverStrategy,
+    want: &[u8],
+) -> Result<(), Fail> {
+    let tokens = run(alloc, bytes, strategy)?;
+    let found = named(alloc, &tokens)?;
+    same(rt, &found.as_slice(), &want, &name);
+    Ok(())
+}
+
 #[test]
 fn tokens(rt: HostRuntime) -> Result<(), Fail> {
-    for (name, bytes, strategy, tokens) in ROWS {
-        let found = run(rt.alloc(), bytes, strategy)?;
-        assert_eq!(rt; named(rt.alloc(), &found)?.as_slice(), tokens, "{name}");
+    for row in &ROWS {
+        let (name, bytes, strategy, tokens) = *row;
+        check(&rt, rt.alloc(), name, bytes, strategy, tokens)?;
     }
     Ok(())
 }
 
-const LONG_B: &str =
-    "=?utf-8?B?bbbbbbbbbbbbbbbbbbbbbbbbbbbbbbbbbbbbbbbbbbbbbbbbbbbbbbbbbbbbbbbbbbbbbbbbbbbbbbbb==?=";
+const LONG_B: &str = "=?utf-8?B?\
+    bbbbbbbbbbbbbbbbbbbbbbbbbbbbbbbbbbbbbbbbbbbbbbbbbbbbbbbbbbbbbbbbbbbbbbbbbbbbbbbb==?=";
 
-const LONG_A: &str =
-    "=?utf-8?B?aaaaaaaaaaaaaaaaaaaaaaaaaaaaaaaaaaaaaaaaaaaaaaaaaaaaaaaaaaaaaaaaaaaaaaaaaaaaaaaa==?=";
+const LONG_A: &str = "=?utf-8?B?\
+    aaaaaaaaaaaaaaaaaaaaaaaaaaaaaaaaaaaaaaaaaaaaaaaaaaaaaaaaaaaaaaaaaaaaaaaaaaaaaaaa==?=";
+
+// The one word, some bytes, and the other.
+fn both(alloc: Global, between: &str) -> Result<String, AllocError> {
+    let mut text = String::from_str(alloc, LONG_B)?;
+    text.push_str(between)?;
+    text.push_str(LONG_A)?;
+    Ok(text)
+}
+
+fn too_long(alloc: Global) -> Result<TooLongEncodedWords, AllocError> {
+    let mut words = Vec::new(alloc);
+    words.push(String::from_str(alloc, LONG_B)?)?;
+    words.push(String::from_str(alloc, LONG_A)?)?;
+    Ok(TooLongEncodedWords::new(words))
+}
+
+fn check_text<E: fmt::Display>(
+    rt: &impl process::Abort,
+    alloc: Global,
+    shown: &E,
+    want: &str,
+) -> Result<(), Fail> {
+    let text = format!(in alloc; "{shown}")?;
+    same(rt, &text.as_str(), &want, &want);
+    Ok(())
+}
+
+fn check_fault(
+    rt: &impl process::Abort,
+    alloc: Global,
+    header: &str,
+    want: LexerError,
+) -> Result<(), Fail> {
+    let error = run(alloc, header.as_bytes(), Abort).err();
+    same(rt, &error, &Some(want), &header);
+    Ok(())
+}
 
 #[test]
 fn too_long_words(rt: HostRuntime) -> Result<(), Fail> {
     let alloc = rt.alloc();
-    let header = format!(in alloc; "{LONG_B}among us =?utf-8?Q?us?= {LONG_A}")?;
-    let both = vec![in alloc;
-        String::from_str(alloc, LONG_B)?,
-        String::from_str(alloc, LONG_A)?,
-    ]?;
-    let too_long = TooLongEncodedWords::new(both);
-    assert_eq!(rt;
-        too_long.to_string(alloc)?,
-        format!(in alloc; "{LONG_B}, {LONG_A}")?
-    );
-    let error = LexerError::ParseEncodedWordTooLongError(too_long);
-    assert_eq!(rt;
-        run(alloc, header.as_bytes(), Abort).err().ok_or("tokens")?,
-        error
-    );
-    let text = format!(in alloc;
-        "Cannot parse the following encoded words, because they are too long: {LONG_B}, {LONG_A}"
-    )?;
-    assert_eq!(rt; error.to_string(alloc)?, text);
+    let joined = both(alloc, ", ")?;
+    check_text(&rt, alloc, &too_long(alloc)?, &joined)?;
+    let header = both(alloc, "among us =?utf-8?Q?us?= ")?;
+    let error = LexerError::ParseEncodedWordTooLongError(too_long(alloc)?);
+    check_fault(&rt, alloc, &header, error)?;
     let none = TooLongEncodedWords::new(Vec::new(alloc));
-    assert_eq!(rt; none.to_string(alloc)?.as_str(), "");
-    Ok(())
+    check_text(&rt, alloc, &none, "")
 }
 
 #[test]
 fn other_errors(rt: HostRuntime) -> Result<(), Fail> {
     let alloc = rt.alloc();
     let parse = LexerError::ParseBytesError(String::from_str(alloc, "x")?);
-    assert_eq!(rt;
-        parse.to_string(alloc)?.as_str(),
-        "cannot parse bytes into tokens: x"
-    );
-    assert_eq!(rt; LexerError::Memory.to_string(alloc)?.as_str(), "no memory");
+    check_text(&rt, alloc, &parse, "cannot parse bytes into tokens: x")?;
+    let too_long = LexerError::ParseEncodedWordTooLongError(too_long(alloc)?);
+    let mut text = String::from_str(
+        alloc,
+        "Cannot parse the following encoded words, because they are too long: ",
+    )?;
+    text.push_str(&both(alloc, ", ")?)?;
+    check_text(&rt, alloc, &too_long, &text)?;
+    check_text(&rt, alloc, &LexerError::Memory, "no memory")
+}
+
+fn word_of(
+    alloc: Global,
+    charset: &[u8],
+    encoding: &[u8],
+    encoded_text: &[u8],
+) -> Result<EncodedWord, AllocError> {
+    let charset = charset.to_vec(alloc)?;
+    let encoding = encoding.to_vec(alloc)?;
+    let encoded_text = encoded_text.to_vec(alloc)?;
+    Ok(EncodedWord::from_parser(((charset, encoding), encoded_text)))
+}
+
+fn check_bytes(
+    rt: &impl process::Abort,
+    alloc: Global,
+    word: &EncodedWord,
+    with_delimiters: bool,
+    want: &[u8],
+) -> Result<(), Fail> {
+    let bytes = word.get_bytes(alloc, with_delimiters)?;
+    same(rt, &bytes.as_slice(), &want, &with_delimiters);
     Ok(())
 }
 
@@ -225,51 +299,46 @@ fn encoded_words(rt: HostRuntime) -> Result<(), Fail> {
     let charset = b"ISO-8859-1".to_vec(alloc)?;
     let text = b"M\xFCnchen".to_vec(alloc)?;
     let word = EncodedWord::new(charset, b"Q".to_vec(alloc)?, text);
-    assert_eq!(rt;
-        word.to_string(alloc)?.as_str(),
-        "=?ISO-8859-1?Q?M\u{FFFD}nchen?="
-    );
-    assert_eq!(rt;
-        word.get_bytes(alloc, true)?.as_slice(),
-        b"=?ISO-8859-1?Q?M\xFCnchen?=".as_slice()
-    );
-    assert_eq!(rt;
-        word.get_bytes(alloc, false)?.as_slice(),
-        b"ISO-8859-1QM\xFCnchen".as_slice()
-    );
-    assert_eq!(rt; EncodedWord::PREFIX, "=?");
-    assert_eq!(rt; EncodedWord::SUFFIX, "?=");
-    assert_eq!(rt; EncodedWord::MAX_LENGTH, 75);
-    assert_eq!(rt; QUESTION_MARK, 0x3F);
-    Ok(())
+    check_text(&rt, alloc, &word, "=?ISO-8859-1?Q?M\u{FFFD}nchen?=")?;
+    check_bytes(&rt, alloc, &word, true, b"=?ISO-8859-1?Q?M\xFCnchen?=")?;
+    check_bytes(&rt, alloc, &word, false, b"ISO-8859-1QM\xFCnchen")
+}
+
+#[test]
+fn constants(rt: HostRuntime) {
+    let ends = (EncodedWord::PREFIX, EncodedWord::SUFFIX);
+    same(&rt, &ends, &("=?", "?="), &"ends");
+    let numbers = (EncodedWord::MAX_LENGTH, QUESTION_MARK);
+    same(&rt, &numbers, &(75, 0x3F), &"numbers");
 }
 
 #[test]
 fn malformed_fields(rt: HostRuntime) -> Result<(), Fail> {
     let alloc = rt.alloc();
-    let charset = b"\xE2\x82".to_vec(alloc)?;
-    let encoding = b"\xF0\x9F\x98x".to_vec(alloc)?;
-    let text = b"a\xC0\x80\xE2\x82\xAC\xED\xA0\x80".to_vec(alloc)?;
-    let word = EncodedWord::from_parser(((charset, encoding), text));
+    let text = b"a\xC0\x80\xE2\x82\xAC\xED\xA0\x80";
+    let word = word_of(alloc, b"\xE2\x82", b"\xF0\x9F\x98x", text)?;
     let shown = "=?\u{FFFD}?\u{FFFD}x?a\u{FFFD}\u{FFFD}\u{20AC}\u{FFFD}\u{FFFD}\u{FFFD}?=";
-    assert_eq!(rt; word.to_string(alloc)?.as_str(), shown);
-    Ok(())
+    check_text(&rt, alloc, &word, shown)
+}
+
+// The length of a token; a word has fields of five, one and one bytes.
+fn len_of(rt: &impl process::Abort, token: &Token) -> usize {
+    match token {
+        Token::ClearText(_) => token.len(),
+        Token::EncodedWord(word) => {
+            assert!(rt; word.charset.len() == 5 && word.encoding.len() == 1);
+            assert!(rt; word.encoded_text.len() == 1);
+            same(rt, &word.len(), &13, &"word");
+            token.len()
+        }
+    }
 }
 
 #[test]
 fn lengths(rt: HostRuntime) -> Result<(), Fail> {
     let tokens = run(rt.alloc(), b"=?UTF-8?Q?a?= bc", Abort)?;
-    for token in &tokens {
-        match token {
-            Token::ClearText(_) => assert_eq!(rt; token.len(), 3),
-            Token::EncodedWord(word) => {
-                assert!(rt; word.charset.len() == 5 && word.encoding.len() == 1);
-                assert_eq!(rt; word.encoded_text.len(), 1);
-                assert_eq!(rt; word.len(), 13);
-                assert_eq!(rt; token.len(), 13);
-            }
-        }
-    }
-    assert_eq!(rt; tokens.len(), 2);
+    assert!(rt; tokens.len() == 2);
+    same(&rt, &len_of(&rt, &tokens[0]), &13, &"a word");
+    same(&rt, &len_of(&rt, &tokens[1]), &3, &"clear text");
     Ok(())
 }
