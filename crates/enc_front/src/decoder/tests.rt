@@ -403,7 +403,11 @@ const UNITS: [UnitsRow; 11] = [
     (EucKr, b"\xac\xa8", &[0x416]),
     (Big5, b"\x88\x62", &[0xCA, 0x304]),
     (EucJp, b"\xa7\xa8\x8f\xa2\xa1", &[0x416, 0x4E02]),
-    (Gb18030, b"\x90\x30\x81\x30\xa7\xa8", &[0xD800, 0xDC00, 0x416]),
+    (
+        Gb18030,
+        b"\x90\x30\x81\x30\xa7\xa8",
+        &[0xD800, 0xDC00, 0x416],
+    ),
     (Iso2022Jp, b"\x1b\x24\x42\x24\x22", &[0x3042]),
 ];
 
