@@ -1,9 +1,9 @@
 """Which files of the crates stand on which, read from their `use` lines and paths,
 as the table "Rooms" of each crate's README: the files that name a file, the
 traits through which it is called besides, and its tests. These are the file
-x/tests.rt beside x.rt; where there is none, the tests that name x and those of
-the files that do. `rooms.py` compares, `rooms.py --write` writes the tables
-anew."""
+x/tests.rt beside x.rt and the tests that name x; where x has none of its own, also
+those of the files that name it. `rooms.py` compares, `rooms.py --write` writes the
+tables anew."""
 
 import re
 import sys
@@ -150,14 +150,14 @@ def beside(place):
 
 
 def tests_of(place):
-    """The tests of a file: its own, or those that name it and those of the files that do."""
+    """The tests of a file: its own and those that name it, else also those of its callers."""
     crate, _ = place
     named_there = TESTED.get(place, set())
     if has_one_room(crate):
         own = {test for test in named_there if test[0] == crate}
         return own | beside(place) | {(crate, ("tests",))}
     if beside(place):
-        return beside(place)
+        return beside(place) | {test for test in named_there if test[0] == crate}
     found, seen, now = set(named_there), {place}, {place}
     while now:
         now = {caller for one in now for caller in USED.get(one, set()) | THROUGH.get(one, set())}
