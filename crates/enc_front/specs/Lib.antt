@@ -23,7 +23,6 @@ pub mod Scalars
 pub mod Start
 pub mod Stretch
 pub mod Tables
-pub mod TypeLaws
 pub mod Units
 pub mod Variant
 pub mod Whole

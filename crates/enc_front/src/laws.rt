@@ -4,7 +4,7 @@ ghost use Rattle.enc_front.specs.declared.decoder.Decoder.{Decoder};
 ghost use Rattle.enc_front.specs.declared.encoding.Encoding.{Encoding};
 ghost use Rattle.enc_front.specs.DecoderView.{place_of};
 ghost use Rattle.enc_front.specs.Encoding.{label, labels, name_text};
-ghost use Rattle.enc_front.specs.TypeLaws.{IsEquality, ClonesSame, HashesEqual};
+ghost use Rattle.enc_handles.specs.TypeLaws.{IsEquality, ClonesSame, HashesEqual};
 
 use crate::charset::Charset;
 use crate::encoding::{Encoding, SingleName};

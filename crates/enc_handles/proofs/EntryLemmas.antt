@@ -5,9 +5,8 @@ use lib.Lanes.{Each1}
 use lib.Utf8.{encode}
 use Rattle.enc_strides.specs.Utf8.{entry_text, Appended}
 use Rattle.enc_strides.proofs.Utf8Lemmas.{text_is}
-use Rattle.enc_handles.specs.Entries.{entry_of, AreEntries, PutsEntry, PutsEntries, WritesEntry, WritesEntries}
+use Rattle.enc_handles.specs.Entries.{entry_of, PutsEntry, PutsEntries, WritesEntry, WritesEntries}
 use Rattle.enc_handles.specs.Utf8.{text_of}
-use Rattle.enc_handles.specs.UnitSlice.{Puts}
 use Rattle.enc_handles.proofs.AsciiLemmas.{written}
 
 pub puts_entry : (old new : List ℕ) (at end number : ℕ) → at + 4 ≤ length old → end ≤ at + 3 → Appended old new at end (entry_text number) → length new ≡ length old

@@ -12,6 +12,7 @@ pub mod Room
 pub mod Rooms
 pub mod Scalars
 pub mod Space
+pub mod TypeLaws
 pub mod Unaligned
 pub mod Unicode
 pub mod UnitSlice

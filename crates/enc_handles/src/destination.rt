@@ -22,7 +22,7 @@ use crate::space::{CopyAsciiResult, Space};
 use crate::unaligned::UnalignedU16Slice;
 use crate::unit_slice::UnitSlice;
 use crate::utf8::{sequence_len, sequence_scalar};
-use crate::utf16::{scalar_at, scalar_of_pair, without_last_lead};
+use crate::utf16::{scalar_of_pair, well_formed_scalar_at, without_last_lead};
 
 #[cfg(test)]
 mod tests;
@@ -315,7 +315,7 @@ impl<S: UnitSlice> DestinationOver<S> {
             self.pos = end;
             return Some(read + count);
         }
-        let Some((scalar, count)) = scalar_at::<E>(units, read) else {
+        let Some((scalar, count)) = well_formed_scalar_at::<E>(units, read) else {
             return None;
         };
         self.put_scalar(scalar);

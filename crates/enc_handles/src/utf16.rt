@@ -8,7 +8,10 @@ use crate::unaligned::UnalignedU16Slice;
 
 // The scalar that stands at `i` and how many units it has, or `None` where an unpaired surrogate
 // stands there and nothing before `i` is its lead.
-pub(crate) fn scalar_at<E: Endian>(units: &UnalignedU16Slice, i: usize) -> Option<(u32, usize)>
+pub(crate) fn well_formed_scalar_at<E: Endian>(
+    units: &UnalignedU16Slice,
+    i: usize,
+) -> Option<(u32, usize)>
     requires { i < length (units_in E.OPPOSITE_ENDIAN units.now) }
     ensures some { IfSome result (λ found. HasScalarAt (units_in E.OPPOSITE_ENDIAN units.now) i
         found.0 found.1) }
