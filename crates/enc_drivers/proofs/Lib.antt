@@ -3,6 +3,7 @@ pub mod CopiedText
 pub mod EncodeAscii
 pub mod EncodeCalls
 pub mod EncodeSteps
+pub mod EncodedEquality
 pub mod EncodedRanges
 pub mod EucJpSteps
 pub mod FoundPlaces

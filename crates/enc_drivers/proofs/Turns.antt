@@ -7,12 +7,14 @@ use Rattle.std.proofs.lemmas.List.Elements.{All-nil, All-cons, All-append, All-d
 use Rattle.std.proofs.lemmas.List.Sums.{sum_by-cons}
 use Rattle.enc_handles.specs.Writing.{Writing, after_writing}
 use Rattle.enc_handles.proofs.LoopLemmas.{after_writing-append}
+use Rattle.enc_handles.specs.declared.results.DecoderResult.{DecoderResult}
+use Rattle.enc_handles.specs.declared.results.DecoderResult.TheVariants as result
 use Rattle.enc_drivers.specs.declared.unit.Item.{Item}
 use Rattle.enc_drivers.specs.declared.unit.Item.TheVariants as item
 use Rattle.enc_drivers.specs.declared.unit.Mode.{Mode}
 use Rattle.enc_drivers.specs.declared.code.Step.TheVariants as step
 use Rattle.enc_drivers.specs.Turn.{Goes, Looks, ReadsOnto}
-use Rattle.enc_drivers.specs.Resume.{Standing, Resumes, NeedsLast, IsOpen, item_in, text_in, unit_bytes}
+use Rattle.enc_drivers.specs.Resume.{Standing, Resumes, NeedsLast, IsOpen, item_in, text_in, malformed_of, unit_bytes}
 use Rattle.enc_drivers.specs.Steps.{MayFollow}
 use Rattle.enc_drivers.specs.Units.{Code, IsCode, IsUnitOf, AreBytes, UnitAt, units}
 use Rattle.enc_drivers.proofs.FrontSteps.{reads_none, open_front}
@@ -246,3 +248,9 @@ goes_more unit form last a b c xs n m w w' w'' malformed one two =
 -- nothing was done yet
 pub goes_nothing : (unit : Code) (form : ℕ → List ℕ) (last : Bool) (a : Standing) (xs : List ℕ) (w : Writing) → Goes unit form last a a xs 0 w w []
 goes_nothing unit form last a xs w = goes_none unit form last a.mode a.held a.held xs w w 0 (reads_none unit a.mode a.held xs) refl
+
+-- a part of a call that had too little room met no malformed unit
+pub goes_full : (unit : Code) (form : ℕ → List ℕ) (last : Bool) (before after : Standing) (src : List ℕ) (count : ℕ) (from to : Writing) (tells : DecoderResult) → tells ≡ result.OutputFull
+    → Goes unit form last before after src count from to (malformed_of tells) → Goes unit form last before after src count from to []
+goes_full unit form last before after src count from to tells full moved =
+    subst (λ (r : DecoderResult). Goes unit form last before after src count from to (malformed_of r)) full moved

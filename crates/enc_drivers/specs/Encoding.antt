@@ -41,7 +41,7 @@ abbrev pub unmappable_if_ends : Option EncoderResult → List ℕ
 unmappable_if_ends (Some result) = unmappable_of result
 unmappable_if_ends None = []
 
-abbrev pub result_if_err : Result ℕ EncoderResult → Option EncoderResult
+abbrev pub result_if_err : {T : Type 0} → Result T EncoderResult → Option EncoderResult
 result_if_err (Ok scalar) = None
 result_if_err (Err result) = Some result
 

@@ -73,6 +73,11 @@ abbrev pub malformed_if_ends : Option DecoderResult → List (Item × ℕ)
 malformed_if_ends (Some r) = malformed_of r
 malformed_if_ends None = []
 
+-- a part of a decode call ends it, or it goes on
+abbrev pub EndsIf : Code → Bool → Standing → List ℕ → ℕ → ℕ → Option DecoderResult → Type 0
+EndsIf unit last after rest free room (Some r) = Ends unit last after rest free room r
+EndsIf unit last after rest free room None = Unit {0}
+
 -- a turn of a decode call that read n bytes of src ends it, or leaves fewer bytes than there were
 abbrev pub EndsOrGoesOn : Code → Bool → Standing → Standing → List ℕ → ℕ → ℕ → ℕ → Option DecoderResult → Type 0
 EndsOrGoesOn unit last before after src n free room (Some r) = Ends unit last after (drop n src) free room r

@@ -1,6 +1,6 @@
 //! The calls that encode a text's next piece, from UTF-8 or from UTF-16: one body for any code, one
 //! for codes that keep ASCII, whose runs it copies, and a copy where UTF-8 stays UTF-8.
-ghost use Rattle.std.specs.Prelude.{◌≡◌, ◌≤◌, ◌<◌, [], ◌∷◌, length};
+ghost use Rattle.std.specs.Prelude.{◌≡◌, ◌≤◌, ◌<◌, [], ◌∷◌, length, IfOk, IfSome};
 ghost use Rattle.std.specs.Char.{IsScalar};
 ghost use Rattle.enc_handles.specs.Utf8.{AreScalars};
 ghost use Rattle.enc_handles.specs.Reading.{left};
@@ -12,7 +12,7 @@ ghost use Rattle.enc_handles.specs.Scalars.{scalars16, is_seam8, is_seam16};
 ghost use Rattle.enc_drivers.specs.Encode.{IsAsciiCompatible, MapsNoAstral};
 ghost use Rattle.enc_drivers.specs.Encodes.{EncodesRaw, unmappable_of};
 ghost use Rattle.enc_drivers.specs.Codes.Utf8.{utf8_bytes_of};
-ghost use Rattle.enc_drivers.specs.Encoding.{Encodes, EndsEncoding, EndsOrEncodes, EndsEncodingIf, CopiesAscii, ReadsNext, Writes, unmappable_if_ends, result_if_err};
+ghost use Rattle.enc_drivers.specs.Encoding.{Encodes, EndsEncoding, EndsOrEncodes, EndsEncodingIf, CopiesAscii, ReadsNext, Writes, scalars_left, unmappable_if_ends, result_if_err};
 
 use crate::encode::EncodeCode;
 use enc_handles::byte_buffer::ByteBuffer;
@@ -200,9 +200,40 @@ fn copy_ascii<T: TextSlice, D: ByteBuffer>(
     }
 }
 
-// Copies ASCII, and encodes the scalar past it where four bytes are free for it.
+// Copies ASCII, and encodes the scalar past it where four bytes are free for it, which it answers.
 #[inline(always)]
 fn encode_run<T: TextSlice, D: ByteBuffer, C: EncodeCode>(
+    code: &C,
+    source: &mut CharSourceOver<T>,
+    dest: &mut ByteDestinationOver<D>,
+) -> Result<Option<char>, EncoderResult>
+    requires ascii { IsAsciiCompatible (C.bytes code.now) }
+    requires scalars { AreScalars (T.scalars (left (reading source.old))) }
+    ensures goes { Encodes T.scalars (C.bytes code.now) (reading source.old) (reading source.new)
+        (writing dest.old) (writing dest.new) (unmappable_if_ends (result_if_err result)) }
+    ensures ends { EndsEncodingIf (C.bytes code.now) C.max (reading source.new)
+        (writing dest.new) (result_if_err result) }
+    ensures fewer { IfOk result (λ scalar. IfSome scalar (λ _.
+        scalars_left T.scalars (reading source.new) < scalars_left T.scalars (reading source.old))) }
+{
+    let Some(scalar) = copy_ascii(source, dest) else {
+        return Ok(None);
+    };
+    match code.bytes_of(scalar) {
+        Some(bytes) => {
+            write(dest, bytes.as_slice());
+            Ok(Some(scalar))
+        }
+        None => Err(EncoderResult::Unmappable(scalar)),
+    }
+}
+
+// Where the letters past ASCII end that stand alone among ASCII, as in text in Latin script.
+const LATIN_END: char = '\u{250}';
+
+// Copies ASCII and encodes the scalar past it in turn, up to a scalar that stands among its like.
+#[inline(always)]
+fn encode_runs<T: TextSlice, D: ByteBuffer, C: EncodeCode>(
     code: &C,
     source: &mut CharSourceOver<T>,
     dest: &mut ByteDestinationOver<D>,
@@ -214,14 +245,17 @@ fn encode_run<T: TextSlice, D: ByteBuffer, C: EncodeCode>(
     ensures ends { EndsEncodingIf (C.bytes code.now) C.max (reading source.new)
         (writing dest.new) result }
 {
-    let Some(scalar) = copy_ascii(source, dest) else {
-        return None;
-    };
-    let Some(bytes) = code.bytes_of(scalar) else {
-        return Some(EncoderResult::Unmappable(scalar));
-    };
-    write(dest, bytes.as_slice());
-    None
+    loop {
+        match encode_run(code, source, dest) {
+            Ok(Some(scalar)) => {
+                if scalar >= LATIN_END {
+                    return None;
+                }
+            }
+            Ok(None) => return None,
+            Err(result) => return Some(result),
+        }
+    }
 }
 
 // Whether a scalar is ASCII of which a run may follow.
@@ -268,7 +302,7 @@ fn encode_ascii<T: TextSlice, D: ByteBuffer, C: EncodeCode>(
         (writing dest.new) result }
 {
     loop {
-        match encode_run(code, source, dest) {
+        match encode_runs(code, source, dest) {
             Some(result) => return result,
             None => {}
         }

@@ -11,9 +11,14 @@ ghost use Rattle.enc_drivers.specs.declared.unit.JisSet.{JisSet};
 ghost use Rattle.enc_drivers.specs.declared.unit.Mode.{Mode};
 ghost use Rattle.enc_drivers.specs.Resume.{Standing, Resumes, text_in};
 ghost use Rattle.enc_drivers.specs.Steps.{MayFollow};
+ghost use Rattle.enc_handles.specs.TypeLaws.{IsEquality, ClonesSame};
 ghost use Rattle.enc_drivers.specs.Units.{Code, IsCode, AreBytes, units, text, IsShort};
 
 use crate::code::{Bulk, Step};
+use crate::codes::user_defined::UserDefined;
+use crate::codes::utf8::Utf8Code;
+use crate::codes::windows_1252::Windows1252;
+use crate::encode::Encoded;
 use crate::{Item, JisSet, Mode};
 
 /// The units of bytes are the unit at their front, and then the units of what follows it, in the
@@ -78,18 +83,31 @@ pub fn joined_calls()
 
 /// Two values of a type of this crate are equal by `==` exactly where they are the same.
 pub fn equality()
-    ensures items { (x y : Item) → (⟦<Item as PartialEq>⟧.eq x y ≡ true) ↔ (x ≡ y) }
-    ensures sets { (x y : JisSet) → (⟦<JisSet as PartialEq>⟧.eq x y ≡ true) ↔ (x ≡ y) }
-    ensures modes { (x y : Mode) → (⟦<Mode as PartialEq>⟧.eq x y ≡ true) ↔ (x ≡ y) }
-    ensures steps { (x y : Step) → (⟦<Step as PartialEq>⟧.eq x y ≡ true) ↔ (x ≡ y) }
-    ensures bulks { (x y : Bulk) → (⟦<Bulk as PartialEq>⟧.eq x y ≡ true) ↔ (x ≡ y) }
+    ensures items { IsEquality ⟦<Item as PartialEq>⟧.eq }
+    ensures sets { IsEquality ⟦<JisSet as PartialEq>⟧.eq }
+    ensures modes { IsEquality ⟦<Mode as PartialEq>⟧.eq }
+    ensures steps { IsEquality ⟦<Step as PartialEq>⟧.eq }
+    ensures bulks { IsEquality ⟦<Bulk as PartialEq>⟧.eq }
+    ensures utf8_codes { IsEquality ⟦<Utf8Code as PartialEq>⟧.eq }
+    ensures windows_1252_codes { IsEquality ⟦<Windows1252 as PartialEq>⟧.eq }
+    ensures user_defined_codes { IsEquality ⟦<UserDefined as PartialEq>⟧.eq }
+{}
+
+/// The same of the bytes of a scalar, which are four at most.
+pub fn equality_of_encoded()
+    ensures { (x y : Encoded) → length x ≤ 4 → length y ≤ 4 →
+        (⟦<Encoded as PartialEq>⟧.eq x y ≡ true) ↔ (x ≡ y) }
 {}
 
 /// A clone of a value of a type of this crate is that value.
 pub fn clones()
-    ensures items { (x y : Item) → ⟦<Item as Clone>⟧.is_clone x y → y ≡ x }
-    ensures sets { (x y : JisSet) → ⟦<JisSet as Clone>⟧.is_clone x y → y ≡ x }
-    ensures modes { (x y : Mode) → ⟦<Mode as Clone>⟧.is_clone x y → y ≡ x }
-    ensures steps { (x y : Step) → ⟦<Step as Clone>⟧.is_clone x y → y ≡ x }
-    ensures bulks { (x y : Bulk) → ⟦<Bulk as Clone>⟧.is_clone x y → y ≡ x }
+    ensures items { ClonesSame ⟦<Item as Clone>⟧.is_clone }
+    ensures sets { ClonesSame ⟦<JisSet as Clone>⟧.is_clone }
+    ensures modes { ClonesSame ⟦<Mode as Clone>⟧.is_clone }
+    ensures steps { ClonesSame ⟦<Step as Clone>⟧.is_clone }
+    ensures bulks { ClonesSame ⟦<Bulk as Clone>⟧.is_clone }
+    ensures encoded { ClonesSame ⟦<Encoded as Clone>⟧.is_clone }
+    ensures utf8_codes { ClonesSame ⟦<Utf8Code as Clone>⟧.is_clone }
+    ensures windows_1252_codes { ClonesSame ⟦<Windows1252 as Clone>⟧.is_clone }
+    ensures user_defined_codes { ClonesSame ⟦<UserDefined as Clone>⟧.is_clone }
 {}

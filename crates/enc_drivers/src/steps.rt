@@ -32,6 +32,7 @@ pub(crate) fn unit(mode: Mode, item: Item, length: u8) -> Step
 }
 
 // So many malformed bytes.
+#[inline(always)]
 pub(crate) fn malformed(mode: Mode, length: u8) -> Step
     ensures { result ≡ step.Unit Malformed length mode }
 {
@@ -39,6 +40,7 @@ pub(crate) fn malformed(mode: Mode, length: u8) -> Step
 }
 
 // What bytes tell that are malformed at the end, and may go on before it.
+#[inline(always)]
 pub(crate) fn cut(mode: Mode, length: u8, last: bool) -> Step
     ensures { result ≡ (if last then step.Unit Malformed length mode else step.More) }
 {

@@ -10,6 +10,7 @@ use crate::{Item, Mode};
 
 // So many bytes, of which `last` is the last, with the scalar that they have: without one they are
 // malformed, but for `last` where it is ASCII.
+#[inline(always)]
 pub(crate) fn sequence(mode: Mode, scalar: Option<char>, length: u8, last: u8) -> Step
     requires { 1 ≤ length }
     ensures { let u = sequence_unit mode scalar length last in result
@@ -23,6 +24,7 @@ pub(crate) fn sequence(mode: Mode, scalar: Option<char>, length: u8, last: u8) -
 }
 
 // So many bytes with the scalar that they have, or malformed as a whole.
+#[inline(always)]
 pub(crate) fn whole(mode: Mode, scalar: Option<char>, length: u8) -> Step
     ensures { let u = whole_unit mode scalar length in result ≡ step.Unit u.item u.len u.next }
 {
@@ -33,6 +35,7 @@ pub(crate) fn whole(mode: Mode, scalar: Option<char>, length: u8) -> Step
 }
 
 // A scalar of so many bytes.
+#[inline(always)]
 pub(crate) fn one(mode: Mode, scalar: char, length: u8) -> Step
     ensures { result ≡ step.Unit (Item.One scalar) length mode }
 {

@@ -43,6 +43,7 @@ impl<E: Endian> Code for Utf16Code<E> {
 
     ghost unit = { λ code. utf16_unit E.OPPOSITE_ENDIAN };
 
+    #[inline(always)]
     fn step(&self, mode: Mode, front: &[u8], last: bool) -> Step {
         step(E::OPPOSITE_ENDIAN, mode, front, last)
     }
@@ -58,6 +59,7 @@ impl<E: Endian> Code for Utf16Code<E> {
 }
 
 // What the front tells, big-endian where `big`.
+#[inline(always)]
 fn step(big: bool, mode: Mode, front: &[u8], last: bool) -> Step
     requires some { 0 < length front.now }
     requires few { length front.now ≤ 4 }

@@ -65,6 +65,7 @@ impl Code for Utf8Code {
 }
 
 // What a front tells of the unit there.
+#[inline(always)]
 fn step(mode: Mode, front: &[u8], last: bool) -> Step
     requires some { 0 < length front.now }
     requires few { length front.now ≤ 4 }

@@ -27,7 +27,7 @@ use enc_handles::unit_slice::UnitSlice;
 #[cfg(test)]
 mod tests;
 
-// How many bytes are read one scalar at a time before more are copied in one go.
+// How many bytes are read unit after unit before more are copied in one go.
 const FEW: usize = 4;
 
 /// A decoder of a code over a stream in pieces. It doesn't replace malformed units.
@@ -44,7 +44,7 @@ impl<C: Code> GeneralDriver<C> {
     ghost use Rattle.enc_drivers.specs.Bulk.{KeepsAscii, ReadsAs, BeginsWithEntry};
     ghost use Rattle.enc_drivers.specs.Codes.Utf8.{utf8_unit};
     ghost use Rattle.enc_drivers.specs.Driver.{standing, unit_of};
-    ghost use Rattle.enc_drivers.specs.Turn.{StepsFront, Looks, Goes, Ends, EndsOrGoesOn, malformed_if_ends};
+    ghost use Rattle.enc_drivers.specs.Turn.{StepsFront, Looks, Goes, Ends, EndsIf, EndsOrGoesOn, malformed_if_ends};
     ghost use Rattle.enc_drivers.specs.Decodes.{DecodesRaw};
     ghost use Rattle.enc_drivers.specs.Resume.{malformed_of};
 
@@ -205,6 +205,37 @@ impl<C: Code> GeneralDriver<C> {
         (Some(DecoderResult::InputEmpty), read)
     }
 
+    // Where nothing is held and no run of ASCII begins: decodes a few bytes unit after unit. A call
+    // begins with them, since text that is often malformed has one or two scalars in a row, which is
+    // no start for a copy. Where a unit has too little room, what follows may still copy some.
+    #[inline(always)]
+    fn few_units<S: UnitSlice>(
+        &mut self,
+        src: &[u8],
+        dest: &mut DestinationOver<S>,
+        last: bool,
+    ) -> (Option<DecoderResult>, usize)
+        ensures goes { Goes (unit_of self.old) S.encode last (standing self.old) (standing self.new)
+            src.now result.1
+            (writing dest.old) (writing dest.new) (malformed_if_ends result.0) }
+        ensures ends { EndsIf (unit_of self.old) last (standing self.new) (drop result.1 src.now)
+            (writing dest.new).free S.astral_room result.0 }
+        ensures same_code { unit_of self.new ≡ unit_of self.old }
+    {
+        let mut read = 0;
+        while read < FEW && read < src.len() && self.held.len() == 0 && !begins_run(&src[read..]) {
+            let (result, more) = self.unit(&src[read..], dest, last);
+            read += more;
+            if let Some(result) = result {
+                if is_output_full(result) {
+                    return (None, read);
+                }
+                return (Some(result), read);
+            }
+        }
+        (None, read)
+    }
+
     // Where nothing is held: writes the unit at the front, or ends the call.
     #[inline(always)]
     fn unit<S: UnitSlice>(
@@ -268,25 +299,7 @@ impl<C: Code> GeneralDriver<C> {
             (record { held = []; mode = mode }) (record { held = []; mode = mode })
             src.now result (writing dest.old) (writing dest.new) [] }
     {
-        let (few, goes_on) = self.copy_few(src, dest);
-        if !goes_on {
-            return few;
-        }
-        few + copy_utf8(&src[few..], dest)
-    }
-
-    // Moves a few scalars, and answers besides whether a copy of more may be worth it: text that is
-    // often malformed has one or two scalars in a row.
-    #[inline(always)]
-    fn copy_few<S: UnitSlice>(&self, src: &[u8], dest: &mut DestinationOver<S>) -> (usize, bool)
-        ensures within { result.0 ≤ length src.now }
-        ensures goes { (last : Bool) (mode : Mode)
-            → Goes (unit_of self.now) S.encode last (record { held = []; mode = mode })
-            (record { held = []; mode = mode })
-            src.now result.0 (writing dest.old) (writing dest.new) [] }
-    {
-        let (read, full) = self.copy_scalars(src, dest, FEW);
-        (read, full || read >= FEW || begins_run(&src[read..]))
+        copy_utf8(src, dest)
     }
 
     // Where the code keeps ASCII: moves ASCII and what the code tells of other text, in turn.
@@ -297,10 +310,7 @@ impl<C: Code> GeneralDriver<C> {
             (record { held = []; mode = mode }) (record { held = []; mode = mode })
             src.now result (writing dest.old) (writing dest.new) [] }
     {
-        let (mut read, goes_on) = self.copy_few(src, dest);
-        if !goes_on {
-            return read;
-        }
+        let mut read = 0;
         while read < src.len() {
             let more = self.copy_part(&src[read..], dest);
             read += more;
@@ -324,8 +334,7 @@ impl<C: Code> GeneralDriver<C> {
         let ascii = self.copy_ascii_run(src, dest);
         let blocks = ascii + self.copy_blocks(&src[ascii..], dest);
         let entries = blocks + self.copy_entries(&src[blocks..], dest);
-        let (scalars, _) = self.copy_scalars(&src[entries..], dest, src.len());
-        entries + scalars
+        entries + self.copy_scalars(&src[entries..], dest)
     }
 
     // Moves ASCII.
@@ -417,33 +426,27 @@ impl<C: Code> GeneralDriver<C> {
         (self.code.entry(first, bytes[1]), 2)
     }
 
-    // Moves one scalar at a time, until so many bytes are read, as far as the code tells it and
-    // there is room, up to ASCII that is worth a copy of its own. Answers besides whether it ended
-    // for want of room.
+    // Moves one scalar at a time, as far as the code tells it and there is room, up to ASCII that is
+    // worth a copy of its own.
     #[inline(always)]
-    fn copy_scalars<S: UnitSlice>(
-        &self,
-        src: &[u8],
-        dest: &mut DestinationOver<S>,
-        until: usize,
-    ) -> (usize, bool)
-        ensures within { result.0 ≤ length src.now }
+    fn copy_scalars<S: UnitSlice>(&self, src: &[u8], dest: &mut DestinationOver<S>) -> usize
+        ensures within { result ≤ length src.now }
         ensures goes { (last : Bool) (mode : Mode)
             → Goes (unit_of self.now) S.encode last (record { held = []; mode = mode })
             (record { held = []; mode = mode })
-            src.now result.0 (writing dest.old) (writing dest.new) [] }
+            src.now result (writing dest.old) (writing dest.new) [] }
     {
         let mut read = 0;
-        while read < until && read < src.len() && !begins_run(&src[read..]) {
+        while read < src.len() && !begins_run(&src[read..]) {
             let Some((scalar, length)) = self.code.scalar(&src[read..]) else {
-                return (read, false);
+                return read;
             };
             if !write_item(dest, Item::One(scalar)) {
-                return (read, true);
+                return read;
             }
             read += length;
         }
-        (read, false)
+        read
     }
 
     // Whether what follows may be worth a copy.
@@ -467,7 +470,10 @@ impl<C: Code> GeneralDriver<C> {
         ensures written { result.2 ≡ length (writing dest.new).text }
         ensures same_code { unit_of self.new ≡ unit_of self.old }
     {
-        let mut read = 0;
+        let (result, mut read) = self.few_units(src, dest, last);
+        if let Some(result) = result {
+            return (result, read, dest.written());
+        }
         loop {
             let (result, more) = self.turn(&src[read..], dest, last);
             read += more;
@@ -476,6 +482,14 @@ impl<C: Code> GeneralDriver<C> {
             }
         }
     }
+}
+
+// Whether a call had too little room.
+#[inline(always)]
+fn is_output_full(tells: DecoderResult) -> bool
+    ensures { result ≡ true → tells ≡ DecoderResult.OutputFull }
+{
+    matches!(tells, DecoderResult::OutputFull)
 }
 
 // Whether ASCII stands at the front but punctuation, digits and spaces, which stand between other

@@ -23,7 +23,9 @@ fn check_scalar<C: EncodeCode>(rt: &impl Abort, code: &C, scalar: char, wanted: 
     }
 }
 
-fn check_bytes<C: EncodeCode>(rt: &impl Abort, code: &C, rows: &[Row]) {
+// The rows of a code whose scalars have at most `max` bytes.
+fn check_bytes<C: EncodeCode>(rt: &impl Abort, code: &C, max: usize, rows: &[Row]) {
+    same(rt, &code.max(), &max, &"most bytes");
     for row in rows {
         let (scalar, wanted) = *row;
         check_scalar(rt, code, scalar, wanted);
@@ -50,9 +52,9 @@ const ALPHAS: [Row; 3] = [('a', b"a"), ('\u{3b1}', b"\x80"), ('\u{80}', b"")];
 
 #[test]
 fn one_byte(rt: HostRuntime) {
-    check_bytes(&rt, &Windows1252::new(), &LATIN);
-    check_bytes(&rt, &UserDefined::new(), &OWN);
-    check_bytes(&rt, &SingleByte::new(&Alphas), &ALPHAS);
+    check_bytes(&rt, &Windows1252::new(), 1, &LATIN);
+    check_bytes(&rt, &UserDefined::new(), 1, &OWN);
+    check_bytes(&rt, &SingleByte::new(&Alphas), 1, &ALPHAS);
 }
 
 const KOREAN: [Row; 3] = [('a', b"a"), ('\u{416}', b"\xac\xa8"), ('\u{80}', b"")];
@@ -68,9 +70,9 @@ const JAPANESE: [Row; 6] = [
 
 #[test]
 fn two_bytes(rt: HostRuntime) {
-    check_bytes(&rt, &EucKr::new(&OneRow { place: 8273 }), &KOREAN);
+    check_bytes(&rt, &EucKr::new(&OneRow { place: 8273 }), 2, &KOREAN);
     let row = OneRow { place: 571 };
-    check_bytes(&rt, &EucJp::new(&row, &row), &JAPANESE);
+    check_bytes(&rt, &EucJp::new(&row, &row), 2, &JAPANESE);
 }
 
 const GBK: [Row; 4] = [
@@ -96,8 +98,8 @@ const UTF_8: [Row; 4] = [
 #[test]
 fn one_to_four_bytes(rt: HostRuntime) {
     let row = OneRow { place: 7323 };
-    check_bytes(&rt, &Gb18030::new(&row, &Alphas, true), &GBK);
-    check_bytes(&rt, &Gb18030::new(&row, &Alphas, false), &GB18030);
-    check_bytes(&rt, &Utf8Code::new(), &UTF_8);
-    check_bytes(&rt, &Utf16Code::<LittleEndian>::new(), &UTF_8);
+    check_bytes(&rt, &Gb18030::new(&row, &Alphas, true), 4, &GBK);
+    check_bytes(&rt, &Gb18030::new(&row, &Alphas, false), 4, &GB18030);
+    check_bytes(&rt, &Utf8Code::new(), 4, &UTF_8);
+    check_bytes(&rt, &Utf16Code::<LittleEndian>::new(), 4, &UTF_8);
 }

@@ -150,7 +150,6 @@ fn check_utf8<C: EncodeCode>(
     pieces: (&str, &str),
     wanted: &[u8],
     room: usize,
-    max: usize,
 )
     requires ascii { IsAsciiCompatible (C.bytes code.now) }
     requires bmp { MapsNoAstral (C.bytes code.now) }
@@ -160,7 +159,14 @@ fn check_utf8<C: EncodeCode>(
     let first = call_utf8(call, code, pieces.0, &mut one[..room.min(8)]);
     let second = call_utf8(call, code, pieces.1, &mut two[..room.min(8)]);
     let given = (first.0, &one[..first.2]);
-    check_pieces(rt, wanted, given, (second.0, &two[..second.2]), room, max);
+    check_pieces(
+        rt,
+        wanted,
+        given,
+        (second.0, &two[..second.2]),
+        room,
+        code.max(),
+    );
 }
 
 // Two pieces of UTF-16 by one of the calls.
@@ -171,7 +177,6 @@ fn check_utf16<C: EncodeCode>(
     pieces: (&[u16], &[u16]),
     wanted: &[u8],
     room: usize,
-    max: usize,
 )
     requires ascii { IsAsciiCompatible (C.bytes code.now) }
     requires bmp { MapsNoAstral (C.bytes code.now) }
@@ -181,7 +186,14 @@ fn check_utf16<C: EncodeCode>(
     let first = call_utf16(call, code, pieces.0, &mut one[..room.min(8)]);
     let second = call_utf16(call, code, pieces.1, &mut two[..room.min(8)]);
     let given = (first.0, &one[..first.2]);
-    check_pieces(rt, wanted, given, (second.0, &two[..second.2]), room, max);
+    check_pieces(
+        rt,
+        wanted,
+        given,
+        (second.0, &two[..second.2]),
+        room,
+        code.max(),
+    );
 }
 
 // One call in one room, over a text in both forms in two pieces, at every cut.
@@ -192,35 +204,28 @@ fn check_cuts<C: EncodeCode>(
     text: (&str, &[u16]),
     wanted: &[u8],
     room: usize,
-    max: usize,
 )
     requires ascii { IsAsciiCompatible (C.bytes code.now) }
     requires bmp { MapsNoAstral (C.bytes code.now) }
 {
     for cut in 0..=text.0.len() {
         if text.0.is_char_boundary(cut) {
-            check_utf8(rt, code, call, text.0.split_at(cut), wanted, room, max);
+            check_utf8(rt, code, call, text.0.split_at(cut), wanted, room);
         }
     }
     for cut in 0..=text.1.len() {
-        check_utf16(rt, code, call, text.1.split_at(cut), wanted, room, max);
+        check_utf16(rt, code, call, text.1.split_at(cut), wanted, room);
     }
 }
 
-// Each call at each room; a scalar has at most `max` bytes.
-fn check_rooms<C: EncodeCode>(
-    rt: &impl Abort,
-    code: &C,
-    text: (&str, &[u16]),
-    wanted: &[u8],
-    max: usize,
-)
+// Each call at each room.
+fn check_rooms<C: EncodeCode>(rt: &impl Abort, code: &C, text: (&str, &[u16]), wanted: &[u8])
     requires ascii { IsAsciiCompatible (C.bytes code.now) }
     requires bmp { MapsNoAstral (C.bytes code.now) }
 {
     for room in 0..=8 {
         for call in 0..3 {
-            check_cuts(rt, code, call, text, wanted, room, max);
+            check_cuts(rt, code, call, text, wanted, room);
         }
     }
 }
@@ -236,9 +241,9 @@ const KOREAN: Text = ("a\u{416}<z\u{416}", &[0x61, 0x416, 0x3c, 0x7a, 0x416]);
 fn each_call_at_each_room(rt: HostRuntime) {
     windows_1252::encoder_keeps_ascii();
     windows_1252::encoder_without_astral();
-    check_rooms(&rt, &Windows1252::new(), LATIN, b"a\xe9<z\x80", 1);
+    check_rooms(&rt, &Windows1252::new(), LATIN, b"a\xe9<z\x80");
     euc_kr::encoder_keeps_ascii();
     euc_kr::encoder_without_astral();
     let index = OneRow { place: 8273 };
-    check_rooms(&rt, &EucKr::new(&index), KOREAN, b"a\xac\xa8<z\xac\xa8", 2);
+    check_rooms(&rt, &EucKr::new(&index), KOREAN, b"a\xac\xa8<z\xac\xa8");
 }

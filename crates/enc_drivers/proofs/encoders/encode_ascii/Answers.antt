@@ -17,6 +17,6 @@ loop-result-preserved g c =
     (encodes_more g.T.TextSlice.scalars (g.C.EncodeCode.bytes c.args.code.now) _ _ _ _ _ _ _ c.loop-result.invariant c.in-None.ensures.goes)
     c.in-None-encode_characters.ensures.goes
 
-pub encode_run-requires-clause-scalars : goal.encode_run-requires-clause-scalars
-encode_run-requires-clause-scalars g c =
+pub encode_runs-requires-clause-scalars : goal.encode_runs-requires-clause-scalars
+encode_runs-requires-clause-scalars g c =
     scalars_behind g.T.TextSlice.scalars (g.C.EncodeCode.bytes c.args.code.now) _ _ _ _ _ c.loop-result.invariant c.requires.scalars

@@ -9,7 +9,7 @@ returns-clause-goes g c =
     let ascii = c.copy_ascii_run-ascii.result in
     let blocks = rw (take_rest src ascii) at c.copy_blocks.ensures.goes in
     let entries = rw (take_rest src (ascii + c.copy_blocks.result)) at c.copy_entries.ensures.goes in
-    let scalars = rw (take_rest src (ascii + c.copy_blocks.result + c.copy_entries.result)) at c.copy_scalars-scalars.ensures.goes in
+    let scalars = rw (take_rest src (ascii + c.copy_blocks.result + c.copy_entries.result)) at c.copy_scalars.ensures.goes in
     λ last mode. goes_more _ _ _ _ _ _ _ _ _ _ _ _ _
     (goes_more _ _ _ _ _ _ _ _ _ _ _ _ _
     (goes_more _ _ _ _ _ _ _ _ _ _ _ _ _ (c.copy_ascii_run-ascii.ensures.goes last mode) (blocks last mode))

@@ -1,10 +1,10 @@
 use Rattle.std.proofs.Common.{length, ap, arith, length-drop}
 use Rattle.std.proofs.lemmas.List.{take_rest}
-use Rattle.enc_drivers.proofs.Turns.{goes_more}
+use Rattle.enc_drivers.proofs.Turns.{goes_nothing, goes_more}
 use Rattle.enc_drivers.proofs.drivers.general.GeneralDriver.copy_text.Goals as goal
 
 pub loop-read-init : goal.loop-read-init
-loop-read-init g c = (c.copy_few-read.ensures.within, c.copy_few-read.ensures.goes)
+loop-read-init g c = (omega arith, λ last mode. goes_nothing _ _ last _ _ _)
 
 pub loop-read-preserved : goal.loop-read-preserved
 loop-read-preserved g c =

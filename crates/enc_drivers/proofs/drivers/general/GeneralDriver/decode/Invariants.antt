@@ -7,8 +7,8 @@ use Rattle.enc_drivers.proofs.drivers.general.GeneralDriver.decode.Given as goal
 
 abbrev pub invariant-loop-result : goal.invariant-loop-result
 invariant-loop-result g l = record {
-  goes : Goes (unit_of l.initial.self) g.S.UnitSlice.encode l.last (standing l.initial.self) (standing l.self) l.src l.read (writing l.initial.dest) (writing l.dest) [];
-  same_code : unit_of l.self ≡ unit_of l.initial.self;
+  goes : Goes (unit_of l.fn.self) g.S.UnitSlice.encode l.last (standing l.fn.self) (standing l.self) l.src l.read (writing l.fn.dest) (writing l.dest) [];
+  same_code : unit_of l.self ≡ unit_of l.fn.self;
 }
 
 abbrev pub decreases-loop-result : goal.decreases-loop-result
