@@ -408,6 +408,9 @@ impl<'t> Decoder<'t> {
             (length (place_of self.new).held) }
         ensures same_end { SameEnd (standing_of self.old) (standing_of self.new) }
     {
+        if let Start::Over = self.start {
+            return 0;
+        }
         let mut read = 0;
         for byte in src {
             if !self.look_at(*byte) {

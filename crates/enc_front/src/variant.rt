@@ -166,7 +166,7 @@ impl<'t> VariantDecoder<'t> {
 }
 
 // The index of a kind, which is there.
-pub(crate) fn index_of(tables: &Tables, kind: IndexKind) -> &Index
+fn index_of(tables: &Tables, kind: IndexKind) -> &Index
     requires flat { is_ranges kind ≡ false }
     requires there { has_kind (indexes_of tables.now) kind ≡ true }
     ensures index { index_places result.now ≡ places_in (indexes_of tables.now) kind }
@@ -179,7 +179,7 @@ pub(crate) fn index_of(tables: &Tables, kind: IndexKind) -> &Index
 }
 
 // The ranges, which are there.
-pub(crate) fn ranges_of(tables: &Tables) -> &Ranges
+fn ranges_of(tables: &Tables) -> &Ranges
     requires { has_kind (indexes_of tables.now) IndexKind.Gb18030Ranges ≡ true }
     ensures { ranges_places result.now ≡ places_in (indexes_of tables.now) IndexKind.Gb18030Ranges }
 {

@@ -61,7 +61,7 @@ impl Encoding {
 
 // The text of all bytes of a decoder's stream, with U+FFFD for each malformed unit, and whether
 // there is one.
-pub(crate) fn decode_whole(
+fn decode_whole(
     alloc: Global,
     decoder: Decoder<'_>,
     bytes: &[u8],

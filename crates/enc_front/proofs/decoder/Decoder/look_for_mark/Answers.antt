@@ -1,4 +1,4 @@
-use Rattle.std.proofs.Common.{rules, true, suc, ℕ, List, ◌∷◌, get_or, ◌+◌, ◌-◌, ◌≡◌, ◌++◌, [], drop}
+use Rattle.std.proofs.Common.{rules, true, false, suc, ℕ, List, ◌∷◌, get_or, ◌+◌, ◌-◌, ◌≡◌, ◌++◌, [], drop}
 use Rattle.std.proofs.Common.{ap, sym, ◌∙◌, arith, length-drop}
 use Rattle.std.proofs.Math.Seq.{drop-cons}
 use Rattle.std.proofs.lemmas.List.{nil_from_length}
@@ -77,4 +77,31 @@ returns-then-last-clause-resumes c =
           (sym c.loop-byte.invariant.count));
       same_indexes = ap (λ (s : DecoderPlace). s.indexes) c.end_start.ensures.place
           ∙ c.loop-byte.invariant.same_indexes;
+    }
+
+pub returns-then-not-look_at-clause-resumes : goal.returns-then-not-look_at-clause-resumes
+returns-then-not-look_at-clause-resumes c =
+    let so_far = c.loop-byte.invariant in
+    let look = c.look_at.ensures in
+    let front = place_of c.loop-byte.self in
+    let after = place_of c.look_at.new.self in
+    let src = c.args.src.now in
+    let refused : c.look_at.result ≡ false = cc in
+    let i = c.loop-byte.byte-index in
+    let cut : drop i src ≡ get_or src i 0 ∷ drop (i + 1) src =
+    let next : suc i ≡ i + 1 = omega arith in
+    drop-cons src i 0 (omega arith) ∙ ap (λ k. get_or src i 0 ∷ drop k src) next in
+    let back : get_or src i 0 ∷ drop (i + 1) src ≡ drop c.loop-byte.read src =
+    sym cut ∙ ap (λ k. drop k src) (sym so_far.count) in
+    record {
+      well_formed = All-nil _;
+      equation = λ more follows. so_far.same more
+          ∙ (ap (λ (l : List ℕ). to_come front (l ++ more)) cut
+          ∙ (look.refused_units refused (drop (i + 1) src ++ more)
+          ∙ ap (λ (l : List ℕ). to_come after (l ++ more)) back));
+      same_encoding = λ more follows. so_far.same_encoding more
+          ∙ (ap (λ (l : List ℕ). encoding_to_come front (l ++ more)) cut
+          ∙ (look.refused_encoding refused (drop (i + 1) src ++ more)
+          ∙ ap (λ (l : List ℕ). encoding_to_come after (l ++ more)) back));
+      same_indexes = look.same_indexes ∙ so_far.same_indexes;
     }
