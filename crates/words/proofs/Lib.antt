@@ -12,3 +12,6 @@ pub mod Composition
 pub mod BitGroups
 pub mod BTexts
 pub mod Known
+pub mod SameValues
+pub mod SameErrors
+pub mod SameHashes

@@ -9,5 +9,6 @@ pub mod Fault
 pub mod Joined
 pub mod Header
 pub mod Parsed
+pub mod PlainErrors
 pub mod SpareBits
 pub mod Appends

@@ -262,12 +262,16 @@ fn texts(rt: HostRuntime) -> Result<(), Fail> {
 fn check_error(
     rt: &impl process::Abort,
     alloc: Global,
-    error: &Error,
+    error: Error,
     want: &str,
 ) -> Result<(), Fail> {
     let text = format!(in alloc; "{error}")?;
     same(rt, &text.as_str(), &want, &want);
     Ok(())
+}
+
+fn check_memory(rt: &impl process::Abort, error: Error) {
+    same(rt, &error, &Error::Memory, &"memory");
 }
 
 #[test]
@@ -285,28 +289,13 @@ fn other_calls(rt: HostRuntime) -> Result<(), Fail> {
 
 #[test]
 fn other_errors(rt: HostRuntime) -> Result<(), Fail> {
-    same(
-        &rt,
-        &Error::from(LexerError::Memory),
-        &Error::Memory,
-        &"lexer",
-    );
-    same(
-        &rt,
-        &Error::from(ParserError::Memory),
-        &Error::Memory,
-        &"parser",
-    );
-    same(
-        &rt,
-        &Error::from(EvaluatorError::Memory),
-        &Error::Memory,
-        &"evaluator",
-    );
+    check_memory(&rt, Error::from(LexerError::Memory));
+    check_memory(&rt, Error::from(ParserError::Memory));
+    check_memory(&rt, Error::from(EvaluatorError::Memory));
     let quoted = Error::Evaluator(EvaluatorError::DecodeQuotedPrintableError(
         QuotedPrintableError::IncompleteHexOctet,
     ));
     let text = "A '=' followed by only one character was found in the input";
-    check_error(&rt, rt.alloc(), &quoted, text)?;
-    check_error(&rt, rt.alloc(), &Error::Memory, "no memory")
+    check_error(&rt, rt.alloc(), quoted, text)?;
+    check_error(&rt, rt.alloc(), Error::Memory, "no memory")
 }

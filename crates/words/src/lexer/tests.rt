@@ -220,10 +220,10 @@ fn too_long(alloc: Global) -> Result<TooLongEncodedWords, AllocError> {
     Ok(TooLongEncodedWords::new(words))
 }
 
-fn check_text<E: fmt::Display>(
+fn check_text<E: fmt::Display + Drop>(
     rt: &impl process::Abort,
     alloc: Global,
-    shown: &E,
+    shown: E,
     want: &str,
 ) -> Result<(), Fail> {
     let text = format!(in alloc; "{shown}")?;
@@ -244,29 +244,41 @@ fn check_fault(
 
 #[test]
 fn too_long_words(rt: HostRuntime) -> Result<(), Fail> {
-    let alloc = rt.alloc();
-    let joined = both(alloc, ", ")?;
-    check_text(&rt, alloc, &too_long(alloc)?, &joined)?;
-    let header = both(alloc, "among us =?utf-8?Q?us?= ")?;
-    let error = LexerError::ParseEncodedWordTooLongError(too_long(alloc)?);
-    check_fault(&rt, alloc, &header, error)?;
-    let none = TooLongEncodedWords::new(Vec::new(alloc));
-    check_text(&rt, alloc, &none, "")
+    let header = both(rt.alloc(), "among us =?utf-8?Q?us?= ")?;
+    let words = too_long(rt.alloc())?;
+    let error = LexerError::ParseEncodedWordTooLongError(words);
+    check_fault(&rt, rt.alloc(), &header, error)
+}
+
+#[test]
+fn shown_words(rt: HostRuntime) -> Result<(), Fail> {
+    let joined = both(rt.alloc(), ", ")?;
+    check_text(&rt, rt.alloc(), too_long(rt.alloc())?, &joined)?;
+    let none = TooLongEncodedWords::new(Vec::new(rt.alloc()));
+    check_text(&rt, rt.alloc(), none, "")
+}
+
+// What is printed of the two words.
+fn too_long_text(alloc: Global) -> Result<String, AllocError> {
+    let before = "Cannot parse the following encoded words, because they are too long: ";
+    let mut text = String::from_str(alloc, before)?;
+    text.push_str(&both(alloc, ", ")?)?;
+    Ok(text)
+}
+
+#[test]
+fn shown_too_long_words(rt: HostRuntime) -> Result<(), Fail> {
+    let text = too_long_text(rt.alloc())?;
+    let words = too_long(rt.alloc())?;
+    let error = LexerError::ParseEncodedWordTooLongError(words);
+    check_text(&rt, rt.alloc(), error, &text)
 }
 
 #[test]
 fn other_errors(rt: HostRuntime) -> Result<(), Fail> {
-    let alloc = rt.alloc();
-    let parse = LexerError::ParseBytesError(String::from_str(alloc, "x")?);
-    check_text(&rt, alloc, &parse, "cannot parse bytes into tokens: x")?;
-    let too_long = LexerError::ParseEncodedWordTooLongError(too_long(alloc)?);
-    let mut text = String::from_str(
-        alloc,
-        "Cannot parse the following encoded words, because they are too long: ",
-    )?;
-    text.push_str(&both(alloc, ", ")?)?;
-    check_text(&rt, alloc, &too_long, &text)?;
-    check_text(&rt, alloc, &LexerError::Memory, "no memory")
+    let parse = LexerError::ParseBytesError(String::from_str(rt.alloc(), "x")?);
+    check_text(&rt, rt.alloc(), parse, "cannot parse bytes into tokens: x")?;
+    check_text(&rt, rt.alloc(), LexerError::Memory, "no memory")
 }
 
 fn word_of(
@@ -299,9 +311,9 @@ fn encoded_words(rt: HostRuntime) -> Result<(), Fail> {
     let charset = b"ISO-8859-1".to_vec(alloc)?;
     let text = b"M\xFCnchen".to_vec(alloc)?;
     let word = EncodedWord::new(charset, b"Q".to_vec(alloc)?, text);
-    check_text(&rt, alloc, &word, "=?ISO-8859-1?Q?M\u{FFFD}nchen?=")?;
     check_bytes(&rt, alloc, &word, true, b"=?ISO-8859-1?Q?M\xFCnchen?=")?;
-    check_bytes(&rt, alloc, &word, false, b"ISO-8859-1QM\xFCnchen")
+    check_bytes(&rt, alloc, &word, false, b"ISO-8859-1QM\xFCnchen")?;
+    check_text(&rt, alloc, word, "=?ISO-8859-1?Q?M\u{FFFD}nchen?=")
 }
 
 #[test]
@@ -318,7 +330,7 @@ fn malformed_fields(rt: HostRuntime) -> Result<(), Fail> {
     let text = b"a\xC0\x80\xE2\x82\xAC\xED\xA0\x80";
     let word = word_of(alloc, b"\xE2\x82", b"\xF0\x9F\x98x", text)?;
     let shown = "=?\u{FFFD}?\u{FFFD}x?a\u{FFFD}\u{FFFD}\u{20AC}\u{FFFD}\u{FFFD}\u{FFFD}?=";
-    check_text(&rt, alloc, &word, shown)
+    check_text(&rt, alloc, word, shown)
 }
 
 // The length of a token; a word has fields of five, one and one bytes.

@@ -66,7 +66,7 @@ fn empty_fields(rt: HostRuntime) -> Result<(), Fail> {
 fn check_error(
     rt: &impl process::Abort,
     alloc: Global,
-    error: &ParserError,
+    error: ParserError,
     want: &str,
 ) -> Result<(), Fail> {
     let text = format!(in alloc; "{error}")?;
@@ -77,11 +77,6 @@ fn check_error(
 #[test]
 fn printed_errors(rt: HostRuntime) -> Result<(), Fail> {
     let empty = "cannot parse encoding: encoding is empty";
-    check_error(
-        &rt,
-        rt.alloc(),
-        &ParserError::ParseEncodingEmptyError,
-        empty,
-    )?;
-    check_error(&rt, rt.alloc(), &ParserError::Memory, "no memory")
+    check_error(&rt, rt.alloc(), ParserError::ParseEncodingEmptyError, empty)?;
+    check_error(&rt, rt.alloc(), ParserError::Memory, "no memory")
 }
