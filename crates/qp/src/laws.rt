@@ -2,7 +2,7 @@
 //! does nothing, or makes the one call that the law is about.
 
 ghost use Rattle.std.specs.Prelude.{◌≡◌, ◌≢◌, ◌↔◌, ℕ, ◌≤◌, ◌<◌, List, ◌∷◌, ◌++◌, length, All, Ok};
-ghost use Rattle.std.specs.Prelude.{Some, IfOk, IsTrue};
+ghost use Rattle.std.specs.Prelude.{Some, IfOk, IsTrue, true};
 ghost use Rattle.std.specs.Ordering.{nat_cmp};
 ghost use Rattle.qp.specs.Text.{kept};
 ghost use Rattle.qp.specs.Line.{line_value};
@@ -13,10 +13,14 @@ ghost use Rattle.qp.specs.Layout.{laid_out, broken_lines};
 ghost use Rattle.qp.specs.Rows.{StandsInRows};
 ghost use Rattle.qp.specs.Settings.{parse_mode_place, input_mode_place, error_place};
 ghost use Rattle.qp.specs.declared.InputMode.{InputMode};
+ghost use Rattle.qp.specs.declared.Options.{Options};
+ghost use Rattle.qp.specs.declared.ParseMode.{ParseMode};
+ghost use Rattle.qp.specs.declared.QuotedPrintableError.{QuotedPrintableError};
 
 use super::{InputMode, Options, ParseMode, QpError, QuotedPrintableError};
 use std::alloc::AllocError;
 use std::cmp::Ordering;
+use std::hash::Hash;
 
 /// A text without LF is one line, and has no line break at its end.
 pub fn one_line()
@@ -155,3 +159,17 @@ pub fn equal_errors(first: &QpError, second: &QpError) -> bool
 {
     first == second
 }
+
+/// Equal values give a hasher the same bytes, in the same writes.
+pub fn hashes()
+    ensures parse_modes { (x y : ParseMode) → ⟦<ParseMode as PartialEq>⟧.eq x y ≡ true →
+        ⟦<ParseMode as Hash>⟧.hash_input x ≡ ⟦<ParseMode as Hash>⟧.hash_input y }
+    ensures input_modes { (x y : InputMode) → ⟦<InputMode as PartialEq>⟧.eq x y ≡ true →
+        ⟦<InputMode as Hash>⟧.hash_input x ≡ ⟦<InputMode as Hash>⟧.hash_input y }
+    ensures faults { (x y : QuotedPrintableError) →
+        ⟦<QuotedPrintableError as PartialEq>⟧.eq x y ≡ true →
+        ⟦<QuotedPrintableError as Hash>⟧.hash_input x
+        ≡ ⟦<QuotedPrintableError as Hash>⟧.hash_input y }
+    ensures options { (x y : Options) → ⟦<Options as PartialEq>⟧.eq x y ≡ true →
+        ⟦<Options as Hash>⟧.hash_input x ≡ ⟦<Options as Hash>⟧.hash_input y }
+{}
