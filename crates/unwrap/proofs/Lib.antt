@@ -3,6 +3,7 @@ mod Asking
 mod Copying
 mod Delivered
 mod Ended
+mod Equalities
 mod FilesTaken
 mod MadeHeader
 mod MadeLine

@@ -13,6 +13,7 @@ pub mod Memory
 pub mod Moves
 pub mod Numbers
 pub mod Quoted
+pub mod Same
 pub mod Status
 pub mod StreamSink
 pub mod Streams

@@ -10,6 +10,7 @@ mod deliver;
 pub mod devices;
 pub mod header;
 mod indexes;
+mod laws;
 mod moving;
 pub mod run;
 pub mod status;

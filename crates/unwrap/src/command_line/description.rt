@@ -1,5 +1,5 @@
 //! The command lines that `clap` reads: each command is its description.
-ghost use Rattle.std.specs.Prelude.{◌≡◌, IfOk, codes};
+ghost use Rattle.std.specs.Prelude.{◌≡◌, IfOk};
 ghost use Rattle.clap.specs.Words.{app_of, with_rule};
 ghost use Rattle.unwrap.specs.Description.{flag, one_value, option, pieces, reader_options, values, with_rules};
 
@@ -29,7 +29,7 @@ pub(crate) fn with_flag<'a>(
 }
 
 // Any number of values, also between the options.
-pub(crate) fn with_values<'a>(
+fn with_values<'a>(
     alloc: Global,
     command: Command<'a>,
     name: &'static str,

@@ -6,7 +6,7 @@ use enc_front::{IndexKind, SingleName};
 
 // The word for each kind of index: for those of encodings of one byte a scalar, the encoding's name
 // in lower case.
-pub(crate) const KIND_WORDS: [(&str, IndexKind); 26] = [
+const KIND_WORDS: [(&str, IndexKind); 26] = [
     ("big5", IndexKind::Big5),
     ("euc-kr", IndexKind::EucKr),
     ("jis0208", IndexKind::Jis0208),

@@ -62,7 +62,7 @@ fn write_all_text<S: Source, K: Sink>(
 }
 
 // Writes the text of a stream as it reads.
-pub(crate) fn write_text<S: Source, K: Sink>(
+fn write_text<S: Source, K: Sink>(
     alloc: Global,
     tables: &Tables,
     options: &StreamOptions<'_>,

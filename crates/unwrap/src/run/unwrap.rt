@@ -38,7 +38,7 @@ pub(crate) struct Header<'a> {
 }
 
 // What is written of an answer, or its status.
-fn bytes_of(answer: Result<String, HeaderError>) -> Result<Vec<u8>, Status>
+fn answer_bytes(answer: Result<String, HeaderError>) -> Result<Vec<u8>, Status>
     ensures text { IfOk result (λ bytes. IfOk answer (λ text. bytes.items ≡ string_bytes text)) }
     ensures same { is_ok result ≡ is_ok answer }
     ensures error { IfErr result (λ status. IfErr answer (λ error. status ≡ error_status error)) }
@@ -76,7 +76,7 @@ impl Value for Header<'_> {
             piece_len,
         );
         Made {
-            bytes: bytes_of(unwrapped.answer),
+            bytes: answer_bytes(unwrapped.answer),
             source: unwrapped.source,
         }
     }

@@ -16,4 +16,4 @@ returns g c =
     let unwraps = subst (λ (x : Options). Unwraps (unknown_encoding x i) (header_of header.strategy x i) x.limit left (g.S.Source.left c.unwrap_header-unwrapped.result.source) faults
     (g.S.Source.faults c.unwrap_header-unwrapped.result.source) c.unwrap_header-unwrapped.result.answer) c.builder_of-builder.ensures c.unwrap_header-unwrapped.ensures.unwraps in
     let answer = c.unwrap_header-unwrapped.result.answer in
-    record { tables = tables_unwrapped _ _ _ _ _ _ _ answer c.bytes_of.result unwraps c.bytes_of.ensures.same c.bytes_of.ensures.error; unread = unread_unwrapped _ answer c.bytes_of.result c.unwrap_header-unwrapped.ensures.unread c.bytes_of.ensures.same c.bytes_of.ensures.error; made = makes_unwrapped header.strategy o i left _ faults _ c.unwrap_header-unwrapped.result.answer c.bytes_of.result unwraps c.bytes_of.ensures.text c.bytes_of.ensures.same c.bytes_of.ensures.error }
+    record { tables = tables_unwrapped _ _ _ _ _ _ _ answer c.answer_bytes.result unwraps c.answer_bytes.ensures.same c.answer_bytes.ensures.error; unread = unread_unwrapped _ answer c.answer_bytes.result c.unwrap_header-unwrapped.ensures.unread c.answer_bytes.ensures.same c.answer_bytes.ensures.error; made = makes_unwrapped header.strategy o i left _ faults _ c.unwrap_header-unwrapped.result.answer c.answer_bytes.result unwraps c.answer_bytes.ensures.text c.answer_bytes.ensures.same c.answer_bytes.ensures.error }
