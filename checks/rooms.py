@@ -1,12 +1,14 @@
 """Which files of the crates stand on which, read from their `use` lines and paths,
-as the table "Rooms" of each crate's README: the files that name a file, the
-traits through which it is called besides, and its tests. These are the file
+as the table "Rooms" of each crate's README: a file's functions, the files that name
+it, the traits through which it is called besides, and its tests. These are the file
 x/tests.rt beside x.rt and the tests that name x; where x has none of its own, also
-those of the files that name it. `rooms.py` compares, `rooms.py --write` writes the
-tables anew."""
+those of the files that name it. Functions stand by the files that call them, as far as
+names tell; methods of an `impl` of a trait are left out. `rooms.py` compares,
+`rooms.py --write` writes the tables anew."""
 
 import re
 import sys
+from collections import Counter
 from pathlib import Path
 
 TOP = Path(__file__).resolve().parent.parent
@@ -15,7 +17,11 @@ CRATES = [
     for line in (TOP / "crates.txt").read_text().splitlines()
     if ":" in line and not line.startswith("#")
 ]
-HEAD = "| file | what stands there | named by | tests |"
+HEAD = "| file | what stands there | functions, by where they are called | named by | tests |"
+RULE = """The functions of a file stand behind the files whose code calls them, as far as names tell; those that tests alone call are for
+callers outside. A law, a function without a body, is called nowhere, and the methods that a file has by a trait are called
+through the trait's file. Tests are the file's own and those that name it; where it has none of its own, those of the files that
+name it."""
 
 
 def files(crate, tests):
@@ -108,14 +114,14 @@ def used_names(crate, module, text):
     return names
 
 
-USED, THROUGH, TESTED = {}, {}, {}
+USED, THROUGH, TESTED, NAMES = {}, {}, {}, {}
 for crate in CRATES:
     for module, text in CODE[crate].items():
         here = crate, module
         for there in named(crate, module, text):
             if there != here:
                 USED.setdefault(there, set()).add(here)
-        names = used_names(crate, module, text)
+        names = NAMES[here] = used_names(crate, module, text)
         for trait in re.findall(r"\bimpl(?:<[^{]*?>)? (\w+)(?:<[^{]*?>)? for ", text):
             if names.get(trait, here) != here:
                 THROUGH.setdefault(here, set()).add(names[trait])
@@ -134,6 +140,111 @@ def shown(place, own):
 def listed(places, own):
     places = sorted(places, key=lambda place: (place[0] != own, place))
     return ", ".join(shown(place, own) for place in places)
+
+
+FUNCTION = re.compile(r"^(\s*)(pub(?:\(crate\))? )?(?:const |unsafe )*fn (\w+)")
+BLOCK = re.compile(r"^(?:pub(?:\(crate\))? )?(impl|trait)\b(.*)")
+
+
+def functions(text):
+    """The functions of a file in order: the type or trait that each stands in, or none, its name,
+    and whether other files may call it. Methods of an `impl` of a trait are left out."""
+    owner, shared, left_out = None, False, False
+    for line in text.splitlines():
+        block = BLOCK.match(line)
+        if block:
+            head = re.sub(r"^\s*<[^{]*?>(?=\s+[A-Z&])", "", block[2]).strip()
+            left_out = block[1] == "impl" and " for " in block[2]
+            shared = block[1] == "trait"
+            owner = re.match(r"&?(?:mut )?(\w+)", head)
+            owner = owner[1] if owner else None
+        elif line.startswith("}"):
+            owner, shared, left_out = None, False, False
+        function = FUNCTION.match(line)
+        if function and not left_out and (not function[1] or owner):
+            yield owner if function[1] else None, function[3], bool(function[2]) or shared
+
+
+def all_functions():
+    """Each function of each file, as `functions` tells them."""
+    return {
+        (crate, module): list(functions(text))
+        for crate in CRATES
+        for module, text in CODE[crate].items()
+    }
+
+
+FUNCTIONS = all_functions()
+# How many files have a function of a name that other files may call.
+SHARED = Counter(
+    name for found in FUNCTIONS.values() for name in {name for _, name, shared in found if shared}
+)
+
+
+def is_called_in(place, owner, name, other):
+    """Whether a file names a function of another: a function by its import or its file's name, a
+    method by its type, or on a value where the file names the type's file, or the name is one of its own."""
+    text = CODE[other[0]][other[1]]
+    if name not in text:
+        return False
+    names = NAMES[other]
+    if not owner:
+        path = f"{place[1][-1] if place[1] else place[0]}::{name}"
+        return names.get(name) == place or bool(re.search(rf"\b{path}\b", text))
+    for word in re.findall(rf"\b(\w+)(?:::<[^;(]*>)?::{name}\b", text):
+        if names.get(word) == place:
+            return True
+    on_value = re.search(rf"\.{name}(?:::<[^;(]*>)?\(", text)
+    own_word = "_" in name and SHARED[name] == 1
+    return bool(on_value) and (other in USED.get(place, ()) or own_word)
+
+
+def is_called_here(place, owner, name):
+    """Whether a file names a function of its own elsewhere than where it stands."""
+    text = CODE[place[0]][place[1]]
+    if owner:
+        on_self = rf"\b(?:self\.|Self::|{owner}(?:::<[^;(]*>)?::){name}\b"
+        return bool(re.search(rf"{on_self}|(?<!self\.)\b(?!self\b)\w+\.{name}\(", text))
+    return len(re.findall(rf"(?<![.:]){name}\b", text)) > len(re.findall(rf"\bfn {name}\b", text))
+
+
+def callers(place, owner, name):
+    """The files whose code, without tests, names a function that other files may call."""
+    found = {
+        (crate, module)
+        for crate in CRATES
+        for module in MODULES[crate]
+        if (crate, module) != place and is_called_in(place, owner, name, (crate, module))
+    }
+    if is_called_here(place, owner, name):
+        found.add(place)
+    return frozenset(found)
+
+
+def function_list(place):
+    """The functions of a file by where they are called."""
+    crate, module = place
+    groups = {}
+    for owner, name, shared in FUNCTIONS[place]:
+        full = f"`{owner}::{name}`" if owner else f"`{name}`"
+        if module[-1:] == ("laws",) or "testing" in module or (not module and name == "main"):
+            key = None
+        else:
+            key = callers(place, owner, name) if shared else frozenset({place})
+        groups.setdefault(key, {})[full] = True
+    return "; ".join(heading(key, place) + ", ".join(found) for key, found in groups.items())
+
+
+def heading(group, place):
+    """What stands before the functions that are called in these files."""
+    if group is None:
+        return ""
+    if not group:
+        return "by tests alone: "
+    if group == {place}:
+        return "here alone: "
+    others = listed(group - {place}, place[0])
+    return f"here and in {others}: " if place in group else f"in {others}: "
 
 
 def has_one_room(crate):
@@ -171,7 +282,7 @@ def tests_of(place):
 
 
 def table(crate):
-    rows = [HEAD, "|---|---|---|---|"]
+    rows = [HEAD, "|---|---|---|---|---|"]
     whole = ("tests",) in TESTS[crate]
     for module, path in sorted(MODULES[crate].items()):
         own = re.sub(r"(?:pub )?(?:use|mod) [^;]*;", "", CODE[crate][module])
@@ -189,7 +300,7 @@ def table(crate):
             through = "called through " + listed(THROUGH[here], crate)
             by = f"{by}; {through}" if by else through
         tests = "`tests`" if not module and whole else listed(tests_of(here), crate)
-        rows.append(f"| {shown(here, crate)} | {has} | {by} | {tests} |")
+        rows.append(f"| {shown(here, crate)} | {has} | {function_list(here)} | {by} | {tests} |")
     return "\n".join(rows)
 
 
@@ -198,8 +309,8 @@ def main():
     for crate in CRATES:
         readme = TOP / "crates" / crate / "README.md"
         text = readme.read_text()
-        wanted = table(crate)
-        found = re.search(re.escape(HEAD) + r"(?:\n\|[^\n]*)*", text)
+        wanted = "## Rooms\n\n" + RULE + "\n\n" + table(crate) + "\n"
+        found = re.search(r"## Rooms\n.*?(?=\n## |\Z)", text, re.S)
         if found and found[0] == wanted:
             continue
         if "--write" not in sys.argv:
@@ -208,7 +319,7 @@ def main():
         elif found:
             readme.write_text(text.replace(found[0], wanted))
         else:
-            readme.write_text(text.rstrip("\n") + "\n\n## Rooms\n\n" + wanted + "\n")
+            readme.write_text(text.rstrip("\n") + "\n\n" + wanted)
     if stale:
         return 1
     print(f"rooms: the READMEs of {len(CRATES)} crates name each file's callers and tests")
