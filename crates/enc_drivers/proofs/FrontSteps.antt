@@ -1,5 +1,5 @@
 -- What a look at a front tells.
-use Rattle.std.proofs.Common.{◌≡◌, ℕ, ◌<◌, ◌≤◌, Bool, true, false, List, [], ◌∷◌, ◌++◌, length, take, drop, ◌+◌, ◌-◌, get_or, refl, ap, sym, subst, ◌∙◌, inl, inr, arith, length-append, length-drop, append_assoc}
+use Rattle.std.proofs.Common.{◌≡◌, ℕ, ◌<◌, ◌≤◌, Bool, true, false, List, [], ◌∷◌, ◌++◌, length, take, ◌+◌, ◌-◌, get_or, refl, ap, sym, subst, ◌∙◌, inl, inr, arith, length-append, append_assoc}
 use Rattle.std.specs.Prelude.{nat_le}
 use Rattle.std.proofs.lemmas.Bool.{leb-false}
 use Rattle.std.proofs.lemmas.List.{take-append-le, take_more, append-nil}
@@ -8,8 +8,8 @@ use Rattle.std.proofs.lemmas.Grind.{common_steps}
 use Rattle.enc_drivers.specs.declared.unit.Mode.{Mode}
 use Rattle.enc_drivers.specs.declared.code.Step.{Step}
 use Rattle.enc_drivers.specs.declared.code.Step.TheVariants as step
-use Rattle.enc_drivers.specs.Turn.{StepsFront, Finds, ReadsOnto, Looks}
-use Rattle.enc_drivers.specs.Resume.{Standing, IsOpen}
+use Rattle.enc_drivers.specs.Turn.{StepsFront, ReadsOnto}
+use Rattle.enc_drivers.specs.Resume.{IsOpen}
 use Rattle.enc_drivers.specs.Steps.{Steps, IsUndecided}
 use Rattle.enc_drivers.specs.Units.{Code, IsCode, AreBytes}
 

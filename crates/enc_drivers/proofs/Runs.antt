@@ -14,7 +14,7 @@ use Rattle.enc_drivers.specs.declared.unit.Item.TheVariants as item
 use Rattle.enc_drivers.specs.declared.unit.Mode.{Mode}
 use Rattle.enc_drivers.specs.Bulk.{KeepsAscii, BeginsWithScalar, ReadsBytes}
 use Rattle.enc_drivers.specs.Turn.{Goes, ReadsOnto}
-use Rattle.enc_drivers.specs.Resume.{MayHold, Standing, item_in, text_in, unit_bytes}
+use Rattle.enc_drivers.specs.Resume.{MayHold, item_in, text_in, unit_bytes}
 use Rattle.enc_drivers.specs.Steps.{MayFollow, IsDecided, IsUndecided}
 use Rattle.enc_drivers.specs.Units.{Code, IsCode, IsUnitOf, AreBytes, UnitAt, scalar_at, units}
 use Rattle.enc_drivers.proofs.FrontSteps.{undecided_few, open_front}
@@ -259,10 +259,3 @@ block_moved unit form last mode xs block w w' laws are long reads written fits =
       fewer = omega arith;
       ahead = λ some held. absurd (omega arith);
     }
-
--- a copy where nothing is held leaves what is held as it was
-pub goes_held : (unit : Code) (form : ℕ → List ℕ) (last : Bool) (standing : Standing) (src : List ℕ) (count : ℕ) (from to : Writing) → standing.held ≡ []
-    → Goes unit form last (record { held = []; mode = standing.mode }) (record { held = []; mode = standing.mode }) src count from to []
-    → Goes unit form last standing standing src count from to []
-goes_held unit form last standing src count from to nothing moved =
-    subst (λ (s : Standing). Goes unit form last s s src count from to []) (ap (λ held. record { held = held; mode = standing.mode }) (sym nothing)) moved

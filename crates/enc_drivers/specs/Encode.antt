@@ -1,5 +1,6 @@
 -- What encoders write of scalars (Encoding Standard, section 4.1, encoders).
-use Rattle.std.specs.Prelude.{◌≡◌, ℕ, ◌<◌, ◌≤◌, List, [], ◌∷◌, ◌++◌, length, Option, Some, None, IsSome, unwrap_or}
+use Rattle.std.specs.Prelude.{◌≡◌, ℕ, ◌<◌, ◌≤◌, List, [], ◌∷◌, ◌++◌, length, Option, Some, None}
+use Rattle.std.specs.Prelude.{IsSome, unwrap_or}
 use Rattle.std.specs.Option.{ForSome}
 use Rattle.std.specs.List.{All, flat_map}
 use Rattle.enc_drivers.specs.declared.unit.Mode.{Mode}
@@ -30,7 +31,8 @@ MapsNoAstral bytes_of = (scalar : ℕ) → 0x10000 ≤ scalar → bytes_of scala
 -- the bytes of this scalar are read as it, whatever follows
 abbrev pub ReadsBack : Code → BytesOf → ℕ → Type 0
 ReadsBack unit bytes_of scalar =
-    (mode : Mode) (bytes rest : List ℕ) → bytes_of scalar ≡ Some bytes → unit mode (bytes ++ rest) ≡ scalar_at mode scalar (length bytes)
+    (mode : Mode) (bytes rest : List ℕ) → bytes_of scalar ≡ Some bytes
+    → unit mode (bytes ++ rest) ≡ scalar_at mode scalar (length bytes)
 
 -- each of these scalars has bytes
 abbrev pub HaveBytes : BytesOf → List ℕ → Type 0

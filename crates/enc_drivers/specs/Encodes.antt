@@ -1,7 +1,10 @@
--- What an encode call does, from text in either form (Encoding Standard, section 4.1, encoders with error mode "fatal").
-use Rattle.std.specs.Prelude.{◌≡◌, ℕ, ◌-◌, ◌<◌, ◌≤◌, Bool, true, List, [], ◌∷◌, ◌++◌, length, take, drop, None}
+-- What an encode call does, from text in either form (Encoding Standard, section 4.1, encoders with
+-- error mode "fatal").
+use Rattle.std.specs.Prelude.{◌≡◌, ℕ, ◌-◌, ◌<◌, ◌≤◌, Bool, true, List, [], ◌∷◌, ◌++◌, length, take}
+use Rattle.std.specs.Prelude.{drop, None}
 use Rattle.enc_handles.specs.declared.results.EncoderResult.{EncoderResult}
-use Rattle.enc_handles.specs.declared.results.EncoderResult.TheVariants.{InputEmpty, OutputFull, Unmappable}
+use Rattle.enc_handles.specs.declared.results.EncoderResult.TheVariants.{InputEmpty, OutputFull}
+use Rattle.enc_handles.specs.declared.results.EncoderResult.TheVariants.{Unmappable}
 use Rattle.enc_drivers.specs.Encode.{BytesOf, HaveBytes, encoded}
 
 -- the scalar that an answer names
@@ -10,10 +13,13 @@ unmappable_of InputEmpty = []
 unmappable_of OutputFull = []
 unmappable_of (Unmappable scalar) = scalar ∷ []
 
--- a call on a piece `src` of text with a buffer that was `old` and is `new`; `scalars_of` gives the scalars of a piece, and
--- `is_seam` the places between two of them; the answer is how the call ended, how much of src it read, and how much it wrote.
--- The scalars that were read are those whose bytes were written, and then the one that has none, if one was met.
-pub record EncodesRaw (scalars_of : List ℕ → List ℕ) (is_seam : List ℕ → ℕ → Bool) (bytes_of : BytesOf) (max : ℕ) (src old new : List ℕ) (answer : EncoderResult × ℕ × ℕ) : Type 0 where
+-- a call on a piece `src` of text with a buffer that was `old` and is `new`; `scalars_of` gives the
+-- scalars of a piece, and `is_seam` the places between two of them; the answer is how the call
+-- ended, how much of src it read, and how much it wrote. The scalars that were read are those whose
+-- bytes were written, and then the one that has none, if one was met.
+pub record EncodesRaw (scalars_of : List ℕ → List ℕ) (is_seam : List ℕ → ℕ → Bool)
+    (bytes_of : BytesOf) (max : ℕ) (src old new : List ℕ) (answer : EncoderResult × ℕ × ℕ)
+    : Type 0 where
   pub scalars : List ℕ
   pub reads : scalars_of (take answer.1 src) ≡ scalars ++ unmappable_of answer.0
   pub have_bytes : HaveBytes bytes_of scalars

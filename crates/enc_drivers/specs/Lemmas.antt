@@ -1,4 +1,5 @@
--- Proofs of the laws of the codes. They stand here since an impl's law has to be a term over specs/.
+-- Proofs of the laws of the codes. They stand here since an impl's law has to be a term over
+-- specs/.
 pub mod Big5Law
 pub mod EncoderLaws
 pub mod EucJpLaw

@@ -1,5 +1,6 @@
 -- Indexes of scalars by place (Encoding Standard, section 5).
-use Rattle.std.specs.Prelude.{◌≡◌, ℕ, ◌-◌, ◌<◌, ◌≤◌, ◌==◌, Bool, false, find, List, Option, Some, slice_index}
+use Rattle.std.specs.Prelude.{◌≡◌, ℕ, ◌-◌, ◌<◌, ◌≤◌, ◌==◌, Bool, false, find, List, Option, Some}
+use Rattle.std.specs.Prelude.{slice_index}
 use Rattle.std.specs.List.{range_with_len}
 use Rattle.std.specs.Option.{ForSome, option_map_or}
 use Rattle.std.specs.Char.{IsScalar}
@@ -21,7 +22,8 @@ HasNoAstral places = (place : ℕ) → ForSome (places place) (λ c. c < 0x10000
 abbrev pub holds : Places → ℕ → ℕ → Bool
 holds places scalar place = option_map_or (λ c. c == scalar) (places place) false
 
--- the least place under `below` that holds the scalar ("index pointer", section 5, of the places that an encoder looks at)
+-- the least place under `below` that holds the scalar ("index pointer", section 5, of the places
+-- that an encoder looks at)
 unfoldable pub least_place : Places → ℕ → ℕ → Option ℕ
 least_place places scalar below = find (holds places scalar) (range_with_len 0 below)
 
@@ -39,4 +41,5 @@ pub record IsByteEntry (places : Places) (byte number : ℕ) : Type 0 where
 
 -- of each byte the entry of its scalar, or 0
 abbrev pub AreByteEntries : Places → List ℕ → Type 0
-AreByteEntries places numbers = (byte : ℕ) → byte < 0x100 → 0 < slice_index numbers byte → IsByteEntry places byte (slice_index numbers byte)
+AreByteEntries places numbers = (byte : ℕ) → byte < 0x100 → 0 < slice_index numbers byte
+    → IsByteEntry places byte (slice_index numbers byte)

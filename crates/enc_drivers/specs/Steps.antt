@@ -1,4 +1,5 @@
--- What a look at the front of bytes tells of the unit there (Encoding Standard, section 4.1: a decoder goes on to the next byte, or to the end of the stream).
+-- What a look at the front of bytes tells of the unit there (Encoding Standard, section 4.1: a
+-- decoder goes on to the next byte, or to the end of the stream).
 use Rattle.std.specs.Prelude.{◌≡◌, ℕ, Bool, true, false, List, [], ◌++◌}
 use Rattle.enc_drivers.specs.declared.unit.Mode.{Mode}
 use Rattle.enc_drivers.specs.declared.code.Step.{Step}
@@ -12,7 +13,8 @@ pub record MayFollow (last : Bool) (more : List ℕ) : Type 0 where
 
 -- the front has this unit whatever follows
 abbrev pub IsDecided : Code → Mode → List ℕ → Bool → UnitAt → Type 0
-IsDecided unit mode front last u = (more : List ℕ) → MayFollow last more → unit mode (front ++ more) ≡ u
+IsDecided unit mode front last u = (more : List ℕ) → MayFollow last more
+    → unit mode (front ++ more) ≡ u
 
 -- two continuations of the front, one of which may be empty, differ in their first unit
 pub record IsUndecided (unit : Code) (mode : Mode) (front : List ℕ) : Type 0 where
@@ -24,5 +26,6 @@ pub record IsUndecided (unit : Code) (mode : Mode) (front : List ℕ) : Type 0 w
 
 -- the unit that the front has whatever follows, or that more bytes are needed
 abbrev pub Steps : Code → Mode → List ℕ → Bool → Step → Type 0
-Steps unit mode front last (step.Unit item length next) = IsDecided unit mode front last (record { item = item; len = length; next = next })
+Steps unit mode front last (step.Unit item length next) =
+    IsDecided unit mode front last (record { item = item; len = length; next = next })
 Steps unit mode front last step.More = (last ≡ false) × IsUndecided unit mode front

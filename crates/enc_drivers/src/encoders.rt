@@ -12,7 +12,9 @@ ghost use Rattle.enc_handles.specs.Scalars.{scalars16, is_seam8, is_seam16};
 ghost use Rattle.enc_drivers.specs.Encode.{IsAsciiCompatible, MapsNoAstral};
 ghost use Rattle.enc_drivers.specs.Encodes.{EncodesRaw, unmappable_of};
 ghost use Rattle.enc_drivers.specs.Codes.Utf8.{utf8_bytes_of};
-ghost use Rattle.enc_drivers.specs.Encoding.{Encodes, EndsEncoding, EndsOrEncodes, EndsEncodingIf, CopiesAscii, ReadsNext, Writes, scalars_left, unmappable_if_ends, result_if_err};
+ghost use Rattle.enc_drivers.specs.Encoding.{Encodes, EndsEncoding, EndsOrEncodes, EndsEncodingIf};
+ghost use Rattle.enc_drivers.specs.Encoding.{CopiesAscii, ReadsNext, Writes, scalars_left};
+ghost use Rattle.enc_drivers.specs.Encoding.{unmappable_if_ends, result_if_err};
 
 use crate::encode::EncodeCode;
 use enc_handles::byte_buffer::ByteBuffer;
@@ -214,7 +216,8 @@ fn encode_run<T: TextSlice, D: ByteBuffer, C: EncodeCode>(
     ensures ends { EndsEncodingIf (C.bytes code.now) C.max (reading source.new)
         (writing dest.new) (result_if_err result) }
     ensures fewer { IfOk result (λ scalar. IfSome scalar (λ _.
-        scalars_left T.scalars (reading source.new) < scalars_left T.scalars (reading source.old))) }
+        scalars_left T.scalars (reading source.new)
+        < scalars_left T.scalars (reading source.old))) }
 {
     let Some(scalar) = copy_ascii(source, dest) else {
         return Ok(None);

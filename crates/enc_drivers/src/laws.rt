@@ -2,7 +2,8 @@
 //! two calls in a row decode as one on both pieces. Each function's contract is a law; it does
 //! nothing. The laws of one code stand in its file in `codes/`.
 
-ghost use Rattle.std.specs.Prelude.{◌≡◌, ℕ, ◌+◌, ◌*◌, ◌<◌, ◌≤◌, Bool, true, List, [], ◌∷◌, ◌++◌, length, drop, encode_utf8, ◌↔◌};
+ghost use Rattle.std.specs.Prelude.{◌≡◌, ℕ, ◌+◌, ◌*◌, ◌<◌, ◌≤◌, Bool, true, List, [], ◌∷◌, ◌++◌};
+ghost use Rattle.std.specs.Prelude.{length, drop, encode_utf8, ◌↔◌};
 ghost use Rattle.std.specs.List.{All, sum_by};
 ghost use Rattle.enc_drivers.specs.declared.code.Bulk.{Bulk};
 ghost use Rattle.enc_drivers.specs.declared.code.Step.{Step};

@@ -1,7 +1,8 @@
 //! Indexes of scalars by place.
 
 ghost use Rattle.std.specs.Prelude.{◌≡◌, ◌<◌, ℕ, IfSome};
-ghost use Rattle.enc_drivers.specs.Lookup.{Places, FindsScalars, AreByteEntries, IsEntryOf, least_place};
+ghost use Rattle.enc_drivers.specs.Lookup.{Places, FindsScalars, AreByteEntries, IsEntryOf};
+ghost use Rattle.enc_drivers.specs.Lookup.{least_place};
 
 /// An index of scalars by place (Encoding Standard, section 5).
 pub trait Lookup {

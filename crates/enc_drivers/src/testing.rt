@@ -1,5 +1,6 @@
 //! What the tests of codes and drivers share.
-ghost use Rattle.std.specs.Prelude.{◌≡◌, ◌<◌, ◌≤◌, ◌==◌, if◌then◌else◌, None, Some, slice_set, replicate};
+ghost use Rattle.std.specs.Prelude.{◌≡◌, ◌<◌, ◌≤◌, ◌==◌, if◌then◌else◌, None, Some, slice_set};
+ghost use Rattle.std.specs.Prelude.{replicate};
 ghost use Rattle.std.proofs.Common.{rules};
 ghost use Rattle.enc_handles.specs.Entries.{entry_of};
 

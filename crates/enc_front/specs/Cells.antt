@@ -1,6 +1,7 @@
 -- The scalars of a flat list of cells, one for each place of an index: a cell without a scalar
 -- holds a number that is none.
-use Rattle.std.specs.Prelude.{◌≡◌, ℕ, ◌-◌, ◌<◌, nat_lt, slice_index, ◌&&◌, if◌then◌else◌, List, map, Option, Some, None, slice_get}
+use Rattle.std.specs.Prelude.{◌≡◌, ℕ, ◌-◌, ◌<◌, nat_lt, slice_index, ◌&&◌, if◌then◌else◌, List, map}
+use Rattle.std.specs.Prelude.{Option, Some, None, slice_get}
 use Rattle.std.specs.Option.{option_and_then, option_map_or}
 use Rattle.enc_handles.specs.Entries.{entry_of}
 use Rattle.enc_drivers.specs.Lookup.{Places}
@@ -19,9 +20,12 @@ cell_entry cell = if is_scalar cell && nat_lt cell 0x1_0000 then entry_of cell e
 abbrev pub cell_entries : List ℕ → List ℕ
 cell_entries cells = map cell_entry cells
 
--- the entry of a byte of an encoding of one byte a scalar: of ASCII as it is, and of 80 to FF by the cells from the first on
+-- the entry of a byte of an encoding of one byte a scalar: of ASCII as it is, and of 80 to FF by
+-- the cells from the first on
 abbrev pub byte_entry : List ℕ → ℕ → ℕ
-byte_entry cells byte = if nat_lt byte 0x80 then entry_of byte else option_map_or cell_entry (slice_get cells (byte - 0x80)) 0
+byte_entry cells byte = if nat_lt byte 0x80 then entry_of byte
+    else option_map_or cell_entry (slice_get cells (byte - 0x80)) 0
 
 abbrev pub HasByteEntries : List ℕ → List ℕ → Type 0
-HasByteEntries cells entries = (byte : ℕ) → byte < 0x100 → slice_index entries byte ≡ byte_entry cells byte
+HasByteEntries cells entries = (byte : ℕ) → byte < 0x100
+    → slice_index entries byte ≡ byte_entry cells byte

@@ -5,7 +5,8 @@ ghost use Rattle.std.specs.Prelude.{None, if◌then◌else◌, is_some, length, 
 ghost use Rattle.std.specs.Prelude.{IfNone, IsTrue};
 ghost use Rattle.std.specs.List.Sorted.{IsNonDecreasing, IsNonDecreasingBy};
 ghost use Rattle.enc_drivers.specs.Lookup.{Places, FindsScalars};
-ghost use Rattle.enc_front.specs.Cells.{cell_places, cell_entry, cell_entries, byte_entry, HasByteEntries};
+ghost use Rattle.enc_front.specs.Cells.{cell_places, cell_entry, cell_entries, byte_entry};
+ghost use Rattle.enc_front.specs.Cells.{HasByteEntries};
 ghost use Rattle.enc_front.specs.Keys.{FindsPlaces, has_key, key_of, pair_keys};
 ghost use Rattle.enc_front.specs.LeastRow.{IsLeastByRows, IsPlaceIn, under, with_7457};
 ghost use Rattle.enc_front.specs.Ranges.{is_outside, range_places};

@@ -1,5 +1,6 @@
 -- The ASCII at the front of a list of bytes, and how much of it a copy moves.
-use Rattle.std.specs.Prelude.{ℕ, ◌+◌, ◌<◌, ◌≤◌, min, List, [], ◌∷◌, length, take, nat_lt, ◌==◌, if◌then◌else◌}
+use Rattle.std.specs.Prelude.{ℕ, ◌+◌, ◌<◌, ◌≤◌, min, List, [], ◌∷◌, length, take, nat_lt, ◌==◌}
+use Rattle.std.specs.Prelude.{if◌then◌else◌}
 use Rattle.enc_handles.specs.Utf8.{text_of}
 use Rattle.enc_handles.specs.declared.results.DecoderResult.{DecoderResult}
 use Rattle.enc_handles.specs.declared.results.DecoderResult.TheVariants.{InputEmpty, OutputFull}
@@ -22,6 +23,7 @@ pub record GoesOn (bytes : List ℕ) (room needed : ℕ) : Type 0 where
   pub past : ascii_len bytes < length bytes
   pub fits : ascii_len bytes + needed ≤ room
 
--- how a copy that doesn't go on ends: the source ends first or at once with the room, or the room does
+-- how a copy that doesn't go on ends: the source ends first or at once with the room, or the room
+-- does
 abbrev pub stop_result : List ℕ → ℕ → DecoderResult
 stop_result bytes room = if moved_len bytes room == length bytes then InputEmpty else OutputFull

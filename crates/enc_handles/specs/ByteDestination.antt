@@ -22,14 +22,18 @@ abbrev pub free_bytes : {D : Type 0} {g : Ghosts D} → ByteDestinationOver D g 
 free_bytes {g} dest = drop dest.pos (g.bytes dest.slice)
 
 -- the destination that a handle keeps, as a reference
-abbrev pub one_destination : {D : Type 0} {g : Ghosts D} → ByteOneOver D g → MutBor (ByteDestinationOver D g)
+abbrev pub one_destination : {D : Type 0} {g : Ghosts D} → ByteOneOver D g → MutBor
+    (ByteDestinationOver D g)
 one_destination handle = handle.dest
 
-abbrev pub two_destination : {D : Type 0} {g : Ghosts D} → ByteTwoOver D g → MutBor (ByteDestinationOver D g)
+abbrev pub two_destination : {D : Type 0} {g : Ghosts D} → ByteTwoOver D g → MutBor
+    (ByteDestinationOver D g)
 two_destination handle = handle.dest
 
-abbrev pub three_destination : {D : Type 0} {g : Ghosts D} → ByteThreeOver D g → MutBor (ByteDestinationOver D g)
+abbrev pub three_destination : {D : Type 0} {g : Ghosts D} → ByteThreeOver D g → MutBor
+    (ByteDestinationOver D g)
 three_destination handle = handle.dest
 
-abbrev pub four_destination : {D : Type 0} {g : Ghosts D} → ByteFourOver D g → MutBor (ByteDestinationOver D g)
+abbrev pub four_destination : {D : Type 0} {g : Ghosts D} → ByteFourOver D g → MutBor
+    (ByteDestinationOver D g)
 four_destination handle = handle.dest

@@ -10,5 +10,6 @@ abbrev pub reading : {B : Type 0} {g : Ghosts B} → ByteSourceOver B g → Read
 reading {g} source = record { items = g.bytes source.slice; place = source.pos }
 
 -- the source that a handle keeps, as a reference
-abbrev pub read_source : {B : Type 0} {g : Ghosts B} → ByteReadOver B g → MutBor (ByteSourceOver B g)
+abbrev pub read_source : {B : Type 0} {g : Ghosts B} → ByteReadOver B g → MutBor
+    (ByteSourceOver B g)
 read_source handle = handle.source

@@ -15,5 +15,6 @@ abbrev pub unread_place : {T : Type 0} {g : Ghosts T} → CharSourceOver T g →
 unread_place source = source.before
 
 -- the source that a handle keeps, as a reference
-abbrev pub read_source : {T : Type 0} {g : Ghosts T} → CharReadOver T g → MutBor (CharSourceOver T g)
+abbrev pub read_source : {T : Type 0} {g : Ghosts T} → CharReadOver T g → MutBor
+    (CharSourceOver T g)
 read_source handle = handle.source

@@ -10,10 +10,13 @@ use Rattle.enc_handles.specs.Writing.{Writing, after_writing}
 abbrev pub entry_of : ℕ → ℕ
 entry_of scalar = entry scalar
 
--- where the number is the entry of a scalar, its text was written behind place `at`, and `end` is the place behind it
+-- where the number is the entry of a scalar, its text was written behind place `at`, and `end` is
+-- the place behind it
 pub record PutsEntry (form : ℕ → List ℕ) (old new : List ℕ) (at end number : ℕ) : Type 0 where
-  pub place : (scalar : ℕ) → scalar < 0x1_0000 → number ≡ entry_of scalar → end ≡ at + length (form scalar)
-  pub text : (scalar : ℕ) → scalar < 0x1_0000 → number ≡ entry_of scalar → Puts old new at (form scalar)
+  pub place : (scalar : ℕ) → scalar < 0x1_0000 → number ≡ entry_of scalar
+      → end ≡ at + length (form scalar)
+  pub text : (scalar : ℕ) → scalar < 0x1_0000 → number ≡ entry_of scalar
+      → Puts old new at (form scalar)
   pub fits : end ≤ length old
   pub same_length : length new ≡ length old
 
@@ -28,12 +31,16 @@ pub record AreEntries (numbers scalars : List ℕ) : Type 0 where
   pub entries : numbers ≡ map entry_of scalars
 
 -- the same as `PutsEntry` of the entries of a row of scalars
-pub record PutsEntries (form : ℕ → List ℕ) (old new : List ℕ) (at end : ℕ) (numbers : List ℕ) : Type 0 where
-  pub place : (scalars : List ℕ) → AreEntries numbers scalars → end ≡ at + length (text_of form scalars)
-  pub text : (scalars : List ℕ) → AreEntries numbers scalars → Puts old new at (text_of form scalars)
+pub record PutsEntries (form : ℕ → List ℕ) (old new : List ℕ) (at end : ℕ)
+    (numbers : List ℕ) : Type 0 where
+  pub place : (scalars : List ℕ) → AreEntries numbers scalars
+      → end ≡ at + length (text_of form scalars)
+  pub text : (scalars : List ℕ) → AreEntries numbers scalars
+      → Puts old new at (text_of form scalars)
   pub fits : end ≤ length old
   pub same_length : length new ≡ length old
 
 abbrev pub WritesEntries : (ℕ → List ℕ) → Writing → Writing → List ℕ → Type 0
 WritesEntries form before after numbers = (scalars : List ℕ) → AreEntries numbers scalars →
-    (after ≡ after_writing before (text_of form scalars)) × (length (text_of form scalars) ≤ before.free)
+    (after ≡ after_writing before (text_of form scalars))
+    × (length (text_of form scalars) ≤ before.free)

@@ -24,7 +24,8 @@ pub astral_fits_utf8 : (c : ℕ) → IsScalar c → length (encode c) ≤ 4
 astral_fits_utf8 c scalar = omega (arith, length-encode c, len_any c)
 
 pub two_fit_utf8 : (c d : ℕ) → c < 0x800 → d < 0x800 → length (encode c) + length (encode d) ≤ 4
-two_fit_utf8 c d below below' = omega (arith, length-encode c, length-encode d, len_low c below, len_low d below')
+two_fit_utf8 c d below below' =
+    omega (arith, length-encode c, length-encode d, len_low c below, len_low d below')
 
 pub bmp_fits_utf16 : (c : ℕ) → IsScalar c → c < 0x1_0000 → length (encode_utf16 c) ≤ 1
 bmp_fits_utf16 c scalar below = grind (arith, nat_tests)
@@ -32,7 +33,8 @@ bmp_fits_utf16 c scalar below = grind (arith, nat_tests)
 pub astral_fits_utf16 : (c : ℕ) → IsScalar c → length (encode_utf16 c) ≤ 2
 astral_fits_utf16 c scalar = grind (arith, nat_tests)
 
-pub two_fit_utf16 : (c d : ℕ) → c < 0x800 → d < 0x800 → length (encode_utf16 c) + length (encode_utf16 d) ≤ 2
+pub two_fit_utf16 : (c d : ℕ) → c < 0x800 → d < 0x800
+    → length (encode_utf16 c) + length (encode_utf16 d) ≤ 2
 two_fit_utf16 c d below below' = grind (arith, nat_tests)
 
 pub ascii_text_utf8 : (c : ℕ) → c < 0x80 → encode c ≡ c ∷ []

@@ -29,7 +29,8 @@ name_if_available name (Full place) = maybe.none
 module _ (R : RattleType) (s : MutBor R.Denot) {T : Type 0} (name : T → GName) where
   abbrev pub RestsIfFull : Space T → (R.Denot → Type 0) → Fml
   RestsIfFull space P =
-      follows_so R R s.ghost_name (name_if_available name space) (λ x n. IfAvailable space (λ _. n ≡ x)) (λ n. IfFull space (λ _. P n))
+      follows_so R R s.ghost_name (name_if_available name space)
+      (λ x n. IfAvailable space (λ _. n ≡ x)) (λ n. IfFull space (λ _. P n))
 
 -- the copy goes on; what holds of the byte and the handle, or of the result and the places
 abbrev pub IsGoOn : {T U : Type 0} → CopyAsciiResult T U → Type 0
@@ -53,4 +54,5 @@ name_if_go_on name (GoOn more) = maybe.some (name more)
 module _ (R : RattleType) (s : MutBor R.Denot) {T U : Type 0} (name : U → GName) where
   abbrev pub RestsIfStop : CopyAsciiResult T U → (R.Denot → Type 0) → Fml
   RestsIfStop copy P =
-      follows_so R R s.ghost_name (name_if_go_on name copy) (λ x n. IfGoOn copy (λ _. n ≡ x)) (λ n. IfStop copy (λ _. P n))
+      follows_so R R s.ghost_name (name_if_go_on name copy) (λ x n. IfGoOn copy (λ _. n ≡ x))
+      (λ n. IfStop copy (λ _. P n))

@@ -15,7 +15,8 @@ non_ascii_scalar (Astral scalar) = scalar
 
 -- any scalar
 abbrev pub unicode_of : ℕ → Unicode
-unicode_of scalar = if nat_lt scalar 0x80 then unicode.Ascii scalar else unicode.NonAscii (non_ascii_of scalar)
+unicode_of scalar = if nat_lt scalar 0x80 then unicode.Ascii scalar
+    else unicode.NonAscii (non_ascii_of scalar)
 
 abbrev pub unicode_scalar : Unicode → ℕ
 unicode_scalar (unicode.Ascii ascii) = ascii

@@ -1,6 +1,9 @@
 -- Code units, surrogates and the text of scalars in UTF-16.
--- Encoding Standard, section 14.2 (shared UTF-16 decoder), and Infra Standard, section 4.6 (surrogates).
-use Rattle.std.specs.Prelude.{◌≡◌, ℕ, ◌+◌, ◌*◌, ◌-◌, ◌≤◌, ◌<◌, Bool, true, false, not, ◌&&◌, ◌||◌, ◌⊎◌, List, [], ◌∷◌, ◌++◌, length, take, slice_index, nat_le, nat_lt, if◌then◌else◌}
+-- Encoding Standard, section 14.2 (shared UTF-16 decoder), and Infra Standard, section 4.6
+-- (surrogates).
+use Rattle.std.specs.Prelude.{◌≡◌, ℕ, ◌+◌, ◌*◌, ◌-◌, ◌≤◌, ◌<◌, Bool, true, false, not, ◌&&◌, ◌||◌}
+use Rattle.std.specs.Prelude.{◌⊎◌, List, [], ◌∷◌, ◌++◌, length, take, slice_index, nat_le, nat_lt}
+use Rattle.std.specs.Prelude.{if◌then◌else◌}
 use Rattle.std.specs.Char.{IsScalar}
 use Rattle.std.specs.Char.Escape.{encode_utf16}
 use Rattle.std.specs.List.{flat_map}
@@ -31,9 +34,11 @@ code_units big (first ∷ second ∷ bytes) = code_unit big first second ∷ cod
 
 -- the units without the last one where that is a leading surrogate, which a later unit may complete
 abbrev pub without_last_lead : List ℕ → List ℕ
-without_last_lead units = if is_lead (slice_index units (length units - 1)) then take (length units - 1) units else units
+without_last_lead units = if is_lead (slice_index units (length units - 1))
+    then take (length units - 1) units else units
 
--- the unit at place k is a surrogate in no pair: a lead that no trail follows, or a trail that follows no lead
+-- the unit at place k is a surrogate in no pair: a lead that no trail follows, or a trail that
+-- follows no lead
 abbrev pub is_unpaired_at : List ℕ → ℕ → Bool
 is_unpaired_at units k =
     (is_lead (slice_index units k) && not (is_trail (slice_index units (k + 1))))
@@ -75,11 +80,13 @@ pub record BeginsNoPair (units : List ℕ) (k : ℕ) : Type 0 where
 abbrev pub utf16_window : (ℕ → ℕ → ℕ) → ℕ → List ℕ → List ℕ
 utf16_window taken room units = without_last_lead (take (taken room (length units)) units)
 
--- the needed room holds any scalar; or no scalar has other units than in UTF-16, and no more of these are taken than fit
+-- the needed room holds any scalar; or no scalar has other units than in UTF-16, and no more of
+-- these are taken than fit
 abbrev pub TakesWhatFits : (ℕ → List ℕ) → ℕ → (ℕ → ℕ → ℕ) → Type 0
 TakesWhatFits form needed taken =
     ((c : ℕ) → IsScalar c → length (form c) ≤ needed)
-    ⊎ (((c : ℕ) → length (form c) ≡ length (encode_utf16 c)) × ((room count : ℕ) → taken room count ≤ room))
+    ⊎ (((c : ℕ) → length (form c) ≡ length (encode_utf16 c))
+    × ((room count : ℕ) → taken room count ≤ room))
 
 -- the same for one window and one room
 abbrev pub WindowFits : (ℕ → List ℕ) → ℕ → List ℕ → ℕ → Type 0

@@ -10,4 +10,5 @@ pub record Writing : Type 0 where
 
 -- after more elements were written
 abbrev pub after_writing : Writing → List ℕ → Writing
-after_writing writing units = record writing { text = writing.text ++ units; free = writing.free - length units }
+after_writing writing units =
+    record writing { text = writing.text ++ units; free = writing.free - length units }

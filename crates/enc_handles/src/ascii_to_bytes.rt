@@ -1,10 +1,12 @@
 //! Copies of ASCII from text in either form to bytes, for encoders.
-ghost use Rattle.std.specs.Prelude.{◌≡◌, ◌+◌, ◌≤◌, ◌↔◌, length, take, drop, true, IsOk, IfOk, IfErr, OnErr};
+ghost use Rattle.std.specs.Prelude.{◌≡◌, ◌+◌, ◌≤◌, ◌↔◌, length, take, drop, true, IsOk, IfOk};
+ghost use Rattle.std.specs.Prelude.{IfErr, OnErr};
 ghost use Rattle.std.specs.Borrow.{sem};
 ghost use Rattle.std.specs.Char.{IsScalar};
 ghost use Rattle.enc_handles.specs.Ascii.{moved_len, GoesOn};
 ghost use Rattle.enc_handles.specs.AsciiToBytes.{moved_ascii, GoesOnPast, StopsIn};
-ghost use Rattle.enc_handles.specs.ByteDestination.{writing, one_destination, two_destination, four_destination};
+ghost use Rattle.enc_handles.specs.ByteDestination.{writing, one_destination, two_destination};
+ghost use Rattle.enc_handles.specs.ByteDestination.{four_destination};
 ghost use Rattle.enc_handles.specs.CharSource.{reading};
 ghost use Rattle.enc_handles.specs.Reading.{left, after_reading};
 ghost use Rattle.enc_handles.specs.Scalars.{ReadsScalars};

@@ -1,5 +1,6 @@
 //! The slice that a destination of bytes writes to, and how a byte and ASCII are put there.
-ghost use Rattle.std.specs.Prelude.{◌≡◌, ◌+◌, ◌-◌, ◌<◌, ◌≤◌, [], ◌∷◌, length, take, drop, List, ℕ, true};
+ghost use Rattle.std.specs.Prelude.{◌≡◌, ◌+◌, ◌-◌, ◌<◌, ◌≤◌, [], ◌∷◌, length, take, drop, List, ℕ};
+ghost use Rattle.std.specs.Prelude.{true};
 ghost use Rattle.std.specs.Borrow.{GName};
 ghost use Rattle.enc_handles.specs.Ascii.{moved_len};
 ghost use Rattle.enc_handles.specs.AsciiToBytes.{moved_ascii};

@@ -1,5 +1,6 @@
 //! A destination of bytes, for encoders, and its handles, the leave to write one to four bytes.
-ghost use Rattle.std.specs.Prelude.{◌≡◌, ◌+◌, ◌-◌, ◌<◌, ◌≤◌, ◌↔◌, [], ◌∷◌, length, take, drop, true, List, ℕ};
+ghost use Rattle.std.specs.Prelude.{◌≡◌, ◌+◌, ◌-◌, ◌<◌, ◌≤◌, ◌↔◌, [], ◌∷◌, length, take, drop};
+ghost use Rattle.std.specs.Prelude.{true, List, ℕ};
 ghost use Rattle.std.specs.Borrow.{sem};
 ghost use Rattle.enc_handles.specs.Writing.{after_writing};
 ghost use Rattle.enc_handles.specs.Ascii.{moved_len};
@@ -43,7 +44,9 @@ impl<'a> ByteDestinationOver<&'a mut [u8]> {
 }
 
 impl<D: ByteBuffer> ByteDestinationOver<D> {
-    ghost use Rattle.enc_handles.specs.ByteDestination.{writing, free_bytes, one_destination, two_destination, three_destination, four_destination};
+    ghost use Rattle.enc_handles.specs.ByteDestination.{writing, free_bytes, one_destination};
+    ghost use Rattle.enc_handles.specs.ByteDestination.{two_destination, three_destination};
+    ghost use Rattle.enc_handles.specs.ByteDestination.{four_destination};
     ghost use Rattle.enc_handles.specs.contracts.byte_destination.ByteDestinationOver.{the_row};
 
     /// How many bytes are written.

@@ -1,16 +1,21 @@
 //! Destinations for text in UTF-8 and in UTF-16, for decoders, and the copies of text to them.
-ghost use Rattle.std.specs.Prelude.{◌≡◌, ◌+◌, ◌-◌, ◌<◌, ◌≤◌, ◌↔◌, [], ◌∷◌, length, true, false, List, ℕ, IsTrue, encode_utf8, slice_index, drop, IsOk, IfOk, IfErr, IfSome, IfNone, OnOk, OnErr};
+ghost use Rattle.std.specs.Prelude.{◌≡◌, ◌+◌, ◌-◌, ◌<◌, ◌≤◌, ◌↔◌, [], ◌∷◌, length, true, false};
+ghost use Rattle.std.specs.Prelude.{List, ℕ, IsTrue, encode_utf8, slice_index, drop, IsOk, IfOk};
+ghost use Rattle.std.specs.Prelude.{IfErr, IfSome, IfNone, OnOk, OnErr};
 ghost use Rattle.enc_handles.specs.Ascii.{ascii_len, moved_len, moved_text, stop_result, GoesOn};
-ghost use Rattle.enc_handles.specs.Copies.{Copied, CopiesUtf8, CopiesUnits, CopiesUtf16, MovesScalars};
+ghost use Rattle.enc_handles.specs.Copies.{Copied, CopiesUtf8, CopiesUnits, CopiesUtf16};
+ghost use Rattle.enc_handles.specs.Copies.{MovesScalars};
 ghost use Rattle.enc_handles.specs.Entries.{WritesEntry, WritesEntries};
 ghost use Rattle.enc_handles.specs.Unaligned.{units_in};
 ghost use Rattle.enc_handles.specs.Reading.{left, after_reading};
 ghost use Rattle.enc_handles.specs.ByteSource.{reading};
-ghost use Rattle.enc_handles.specs.Utf16.{is_lead, is_trail, pair_scalar, code_units, utf16_window, WindowFits, TakesWhatFits, BeginsNoPair};
+ghost use Rattle.enc_handles.specs.Utf16.{is_lead, is_trail, pair_scalar, code_units, utf16_window};
+ghost use Rattle.enc_handles.specs.Utf16.{WindowFits, TakesWhatFits, BeginsNoPair};
 ghost use Rattle.std.specs.Borrow.{sem};
 ghost use Rattle.std.specs.Char.{IsScalar};
 ghost use Rattle.enc_handles.specs.Writing.{Writing, after_writing};
-ghost use Rattle.enc_handles.specs.Space.{IsAvailable, IfAvailable, IfFull, RestsIfFull, IsGoOn, IfGoOn, IfStop, RestsIfStop};
+ghost use Rattle.enc_handles.specs.Space.{IsAvailable, IfAvailable, IfFull, RestsIfFull, IsGoOn};
+ghost use Rattle.enc_handles.specs.Space.{IfGoOn, IfStop, RestsIfStop};
 ghost use Rattle.enc_handles.specs.Room.{bmp_destination, astral_destination};
 
 use crate::byte_slice::ByteSlice;
@@ -93,7 +98,8 @@ pub trait Destination: Drop {
     ) -> CopyAsciiResult<(DecoderResult, usize, usize), (u8, BmpRoom<'b, Self>)>
         ensures* rests { sem 𝓛 (RestsIfStop Self.row self.entry
             (λ more. (bmp_destination more.1).ghost_name) result
-            (λ n. state n ≡ after_writing (state self.old) (moved_text encode (left (reading source.old)) (state self.old).free))) }
+            (λ n. state n ≡ after_writing (state self.old)
+            (moved_text encode (left (reading source.old)) (state self.old).free))) }
         ensures goes_on { IsGoOn result ↔ GoesOn (left (reading source.old)) (state self.old).free
             bmp_room }
 
@@ -105,7 +111,8 @@ pub trait Destination: Drop {
             ≡ after_reading (reading source.old) (ascii_len (left (reading source.old)) + 1)) }
         ensures same_reference { IfGoOn result (λ more. (bmp_destination more.1).ghost_name
             ≡ self.entry.ghost_name) }
-        ensures room { IfGoOn result (λ more. bmp_room ≤ (state (bmp_destination more.1).now).free) }
+        ensures room { IfGoOn result (λ more. bmp_room
+            ≤ (state (bmp_destination more.1).now).free) }
         ensures text { IfGoOn result (λ more. state (bmp_destination more.1).now
             ≡ after_writing (state self.old) (moved_text encode (left (reading source.old))
             (state self.old).free)) }
@@ -129,7 +136,8 @@ pub trait Destination: Drop {
     ) -> CopyAsciiResult<(DecoderResult, usize, usize), (u8, AstralRoom<'b, Self>)>
         ensures* rests { sem 𝓛 (RestsIfStop Self.row self.entry
             (λ more. (astral_destination more.1).ghost_name) result
-            (λ n. state n ≡ after_writing (state self.old) (moved_text encode (left (reading source.old)) (state self.old).free))) }
+            (λ n. state n ≡ after_writing (state self.old)
+            (moved_text encode (left (reading source.old)) (state self.old).free))) }
         ensures goes_on { IsGoOn result ↔ GoesOn (left (reading source.old)) (state self.old).free
             astral_room }
 
@@ -178,8 +186,10 @@ pub trait Destination: Drop {
         source: &mut ByteSourceOver<B>,
     ) -> Option<(usize, usize)>
         ensures { CopiesUtf16 encode
-            (utf16_window utf16_taken (state self.old).free (code_units E.OPPOSITE_ENDIAN (left (reading source.old))))
-            utf16_room (reading source.old) (reading source.new) (state self.old) (state self.new) result };
+            (utf16_window utf16_taken (state self.old).free
+            (code_units E.OPPOSITE_ENDIAN (left (reading source.old))))
+            utf16_room (reading source.old) (reading source.new) (state self.old) (state self.new)
+            result };
 
     /// An ASCII scalar is one element, itself.
     ghost ascii_text: { (c : ℕ) → c < 0x80 → encode c ≡ c ∷ [] };
@@ -191,7 +201,8 @@ pub trait Destination: Drop {
     ghost astral_fits: { (c : ℕ) → IsScalar c → length (encode c) ≤ astral_room };
 
     /// An astral room holds two scalars below U+0800.
-    ghost two_fit: { (c d : ℕ) → c < 0x800 → d < 0x800 → length (encode c) + length (encode d) ≤ astral_room };
+    ghost two_fit: { (c d : ℕ) → c < 0x800 → d < 0x800
+        → length (encode c) + length (encode d) ≤ astral_room };
 }
 
 /// A destination over a slice of code units.
@@ -306,8 +317,10 @@ impl<S: UnitSlice> DestinationOver<S> {
         requires fits { WindowFits S.encode S.utf16_room
             (drop read (units_in E.OPPOSITE_ENDIAN units.now)) (writing self.old).free }
         ensures moved { IfSome result (λ next. MovesScalars S.encode S.utf16_room
-            (units_in E.OPPOSITE_ENDIAN units.now) (writing self.old) (writing self.new) read next) }
-        ensures unpaired { IfNone result (BeginsNoPair (units_in E.OPPOSITE_ENDIAN units.now) read) }
+            (units_in E.OPPOSITE_ENDIAN units.now) (writing self.old) (writing self.new) read
+            next) }
+        ensures unpaired { IfNone result
+            (BeginsNoPair (units_in E.OPPOSITE_ENDIAN units.now) read) }
         ensures stays { IfNone result (writing self.new ≡ writing self.old) }
     {
         let (count, end) = self.slice.copy_units_at::<E>(self.pos, units, read);

@@ -1,10 +1,12 @@
 //! The slice that a source of text reads from, in UTF-8 or UTF-16, and how a scalar is read there.
-ghost use Rattle.std.specs.Prelude.{◌≡◌, ◌+◌, ◌<◌, ◌≤◌, [], ◌∷◌, ◌++◌, ◌&&◌, IsTrue, Bool, true, length, take, drop, slice_index, List, ℕ};
+ghost use Rattle.std.specs.Prelude.{◌≡◌, ◌+◌, ◌<◌, ◌≤◌, [], ◌∷◌, ◌++◌, ◌&&◌, IsTrue, Bool, true};
+ghost use Rattle.std.specs.Prelude.{length, take, drop, slice_index, List, ℕ};
 ghost use Rattle.std.specs.Str.{chars};
 ghost use Rattle.enc_handles.specs.Ascii.{moved_len};
 ghost use Rattle.enc_handles.specs.AsciiToBytes.{moved_ascii};
 ghost use Rattle.enc_handles.specs.Utf16.{is_lead, is_trail, pair_scalar};
-ghost use Rattle.enc_handles.specs.Scalars.{lone_scalar, scalars16, first_len16, is_seam16, first_len8, is_seam8, ReadsBetween};
+ghost use Rattle.enc_handles.specs.Scalars.{lone_scalar, scalars16, first_len16, is_seam16};
+ghost use Rattle.enc_handles.specs.Scalars.{first_len8, is_seam8, ReadsBetween};
 ghost use Rattle.enc_handles.specs.Lemmas.TextLaws.{at_start8, whole8, at_start16, whole16};
 
 use crate::basic_latin::basic_latin_to_ascii;

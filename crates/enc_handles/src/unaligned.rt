@@ -1,5 +1,6 @@
 //! Code units of UTF-16 in a slice of bytes, which may begin at any place.
-ghost use Rattle.std.specs.Prelude.{◌≡◌, ◌+◌, ◌-◌, ◌*◌, ◌<◌, ◌≤◌, ◌↔◌, length, take, drop, slice_index, false, true, Bool, IsSome, IfSome};
+ghost use Rattle.std.specs.Prelude.{◌≡◌, ◌+◌, ◌-◌, ◌*◌, ◌<◌, ◌≤◌, ◌↔◌, length, take, drop};
+ghost use Rattle.std.specs.Prelude.{slice_index, false, true, Bool, IsSome, IfSome};
 ghost use Rattle.enc_handles.specs.Utf16.{code_units, bmp_len};
 
 use crate::blocks::move_utf16;
@@ -118,7 +119,8 @@ impl<'a> UnalignedU16Slice<'a> {
     pub fn copy_bmp_to<E: Endian>(&self, other: &mut [u16]) -> Option<(u16, usize)>
         requires { length (units_in E.OPPOSITE_ENDIAN self.now) ≤ length other.old }
         ensures found { IsSome result
-            ↔ (bmp_len (units_in E.OPPOSITE_ENDIAN self.now) < length (units_in E.OPPOSITE_ENDIAN self.now)) }
+            ↔ (bmp_len (units_in E.OPPOSITE_ENDIAN self.now)
+            < length (units_in E.OPPOSITE_ENDIAN self.now)) }
         ensures surrogate { IfSome result (λ found. found.0
             ≡ slice_index (units_in E.OPPOSITE_ENDIAN self.now)
             (bmp_len (units_in E.OPPOSITE_ENDIAN self.now))) }

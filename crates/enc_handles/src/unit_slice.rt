@@ -1,5 +1,6 @@
 //! The slice that a destination of text writes to, in UTF-8 or UTF-16, and how text is put there.
-ghost use Rattle.std.specs.Prelude.{◌≡◌, ◌+◌, ◌-◌, ◌<◌, ◌≤◌, [], ◌∷◌, length, take, min, List, ℕ, encode_utf8, IfSome, IfNone};
+ghost use Rattle.std.specs.Prelude.{◌≡◌, ◌+◌, ◌-◌, ◌<◌, ◌≤◌, [], ◌∷◌, length, take, min, List, ℕ};
+ghost use Rattle.std.specs.Prelude.{encode_utf8, IfSome, IfNone};
 ghost use Rattle.std.specs.Borrow.{GName};
 ghost use Rattle.std.specs.Char.{IsScalar};
 ghost use Rattle.std.specs.Char.Escape.{encode_utf16};
@@ -9,7 +10,10 @@ ghost use Rattle.enc_handles.specs.Copies.{MovesFront, MovesFrom};
 ghost use Rattle.enc_handles.specs.Unaligned.{units_in};
 ghost use Rattle.enc_handles.specs.Entries.{PutsEntry, PutsEntries};
 ghost use Rattle.enc_handles.specs.UnitSlice.{Puts};
-ghost use Rattle.enc_handles.specs.Rooms.{takes_what_fits_utf8, takes_what_fits_utf16, ascii_text_utf8, ascii_text_utf16, bmp_fits_utf8, astral_fits_utf8, two_fit_utf8, bmp_fits_utf16, astral_fits_utf16, two_fit_utf16};
+ghost use Rattle.enc_handles.specs.Rooms.{takes_what_fits_utf8, takes_what_fits_utf16};
+ghost use Rattle.enc_handles.specs.Rooms.{ascii_text_utf8, ascii_text_utf16, bmp_fits_utf8};
+ghost use Rattle.enc_handles.specs.Rooms.{astral_fits_utf8, two_fit_utf8, bmp_fits_utf16};
+ghost use Rattle.enc_handles.specs.Rooms.{astral_fits_utf16, two_fit_utf16};
 
 use crate::blocks::{move_utf8, move_utf16};
 use crate::endian::Endian;
@@ -150,7 +154,8 @@ pub trait UnitSlice: Drop {
     ghost astral_fits: { (c : ℕ) → IsScalar c → length (encode c) ≤ astral_room };
 
     /// The room for any scalar holds two scalars below U+0800.
-    ghost two_fit: { (c d : ℕ) → c < 0x800 → d < 0x800 → length (encode c) + length (encode d) ≤ astral_room };
+    ghost two_fit: { (c d : ℕ) → c < 0x800 → d < 0x800
+        → length (encode c) + length (encode d) ≤ astral_room };
 }
 
 fn put_byte(slice: &mut [u8], at: usize, byte: u8) -> usize

@@ -1,7 +1,8 @@
 //! Surrogates, and the scalars that code units of UTF-16 stand for.
 ghost use Rattle.std.specs.Prelude.{◌≡◌, ◌<◌, ◌≤◌, IsTrue, length, IfSome, IfNone};
 ghost use Rattle.enc_handles.specs.Unaligned.{units_in};
-ghost use Rattle.enc_handles.specs.Utf16.{is_lead, is_trail, is_surrogate, pair_scalar, without_last_lead, HasScalarAt, BeginsNoPair};
+ghost use Rattle.enc_handles.specs.Utf16.{is_lead, is_trail, is_surrogate, pair_scalar};
+ghost use Rattle.enc_handles.specs.Utf16.{without_last_lead, HasScalarAt, BeginsNoPair};
 
 use crate::endian::Endian;
 use crate::unaligned::UnalignedU16Slice;

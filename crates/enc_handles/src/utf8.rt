@@ -2,7 +2,8 @@
 //! the Unicode Standard, table 3-7).
 ghost use Rattle.std.specs.Prelude.{◌≡◌, ◌<◌, ◌≤◌, ◌++◌, length, drop, slice_index, encode_utf8};
 ghost use Rattle.std.specs.Char.{IsScalar};
-ghost use Rattle.enc_handles.specs.Utf8.{byte_in, is_tail_at, begins_two, begins_three, begins_four, sequence_len, sequence_scalar};
+ghost use Rattle.enc_handles.specs.Utf8.{byte_in, is_tail_at, begins_two, begins_three};
+ghost use Rattle.enc_handles.specs.Utf8.{begins_four, sequence_len, sequence_scalar};
 
 /// Whether a byte from `low` to `high` stands at place `k`.
 #[inline(always)]

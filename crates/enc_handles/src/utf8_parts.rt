@@ -122,7 +122,8 @@ pub(crate) fn copy_utf8(src: &[u8], dst: &mut [u8]) -> usize
     ensures within { result ≤ length src.now }
     ensures fits { result ≤ length dst.old }
     ensures whole { IsUtf8 (take result src.now) }
-    ensures longest { result ≡ utf8_valid_len (take (min (length src.now) (length dst.old)) src.now) }
+    ensures longest { result
+        ≡ utf8_valid_len (take (min (length src.now) (length dst.old)) src.now) }
     ensures copied { take result dst.new ≡ take result src.now }
     ensures same_length { length dst.new ≡ length dst.old }
 {

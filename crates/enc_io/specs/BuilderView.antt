@@ -22,4 +22,5 @@ options_of builder = record {
 -- why no reader is made with a buffer of so many bytes, if none is
 abbrev pub build_error : Options → Indexes → ℕ → Option BuildError
 build_error options indexes room =
-    option_map_or (λ encoding. Some (NoTable encoding)) (unknown_encoding options indexes) (if nat_lt room 4 then Some (TooSmall room) else None)
+    option_map_or (λ encoding. Some (NoTable encoding)) (unknown_encoding options indexes)
+    (if nat_lt room 4 then Some (TooSmall room) else None)

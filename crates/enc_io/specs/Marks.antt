@@ -9,9 +9,11 @@ use Rattle.enc_front.specs.Marks.{mark}
 abbrev pub bom_bytes : PossibleBom → List ℕ
 bom_bytes bom = take bom.len bom.bytes
 
--- the encoding of the mark that begins them; none under three bytes, where "BOM sniff" takes the two bytes of a UTF-16 mark alone too
+-- the encoding of the mark that begins them; none under three bytes, where "BOM sniff" takes the
+-- two bytes of a UTF-16 mark alone too
 abbrev pub peeked_encoding : List ℕ → Option Encoding
-peeked_encoding bytes = if nat_lt (length bytes) 3 then None else option_map (λ found. found.0) (mark bytes)
+peeked_encoding bytes = if nat_lt (length bytes) 3 then None
+    else option_map (λ found. found.0) (mark bytes)
 
 -- the length of the mark that begins them, where a mark is taken off
 abbrev pub front_length : Bool → List ℕ → ℕ

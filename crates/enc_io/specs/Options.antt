@@ -4,8 +4,9 @@ use Rattle.std.specs.declared.option.Option.{Option}
 use Rattle.enc_front.specs.declared.encoding.Encoding.{Encoding}
 use Rattle.enc_front.specs.Indexes.{Indexes, known}
 
--- the encoding to read by, if one is named; whether a stream with UTF-8's mark passes as it is, whether a mark at the front is left out, whether
--- a mark overrides the named encoding, whether a mark is looked for at all; and the most bytes that a source may give
+-- the encoding to read by, if one is named; whether a stream with UTF-8's mark passes as it is,
+-- whether a mark at the front is left out, whether a mark overrides the named encoding, whether a
+-- mark is looked for at all; and the most bytes that a source may give
 pub record Options : Type 0 where
   pub encoding : Option Encoding
   pub utf8_passthru : Bool
@@ -27,4 +28,6 @@ default_options = record {
 
 -- the named encoding, where an index that it needs is not there
 abbrev pub unknown_encoding : Options → Indexes → Option Encoding
-unknown_encoding options indexes = option_and_then (λ encoding. if known encoding indexes then None else Some encoding) options.encoding
+unknown_encoding options indexes =
+    option_and_then (λ encoding. if known encoding indexes then None else Some encoding)
+    options.encoding

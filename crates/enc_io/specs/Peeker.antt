@@ -1,13 +1,14 @@
 -- What a reader of a stream behind its mark stands for between two calls.
-use Rattle.std.specs.Prelude.{◌≡◌, ℕ, Bool, true, false, if◌then◌else◌, List, [], ◌++◌, length, take, Result, Ok, Err}
+use Rattle.std.specs.Prelude.{◌≡◌, ℕ, Bool, true, false, if◌then◌else◌, List, [], ◌++◌, length}
+use Rattle.std.specs.Prelude.{take, Result, Ok, Err}
 use Rattle.std.specs.Io.KnownBytes.{Consumes}
 use Rattle.std.specs.declared.option.Option.{Option}
 use Rattle.std.specs.Option.{option_map}
 use Rattle.enc_drivers.specs.Units.{AreBytes}
 use Rattle.enc_front.specs.Marks.{without_mark}
 
--- whether a mark is left out, the bytes gathered to look for it, whether that is done, those of them that are still to be given once it is, and whether
--- the source has ended
+-- whether a mark is left out, the bytes gathered to look for it, whether that is done, those of
+-- them that are still to be given once it is, and whether the source has ended
 pub record PeekerStanding : Type 0 where
   pub strips : Bool
   pub gathered : List ℕ
@@ -17,26 +18,36 @@ pub record PeekerStanding : Type 0 where
 
 -- a reader at the start of a stream
 abbrev pub fresh : Bool → PeekerStanding
-fresh strips = record { strips = strips; gathered = []; peeked = false; waiting = []; ended = false }
+fresh strips = record {
+  strips = strips;
+  gathered = [];
+  peeked = false;
+  waiting = [];
+  ended = false;
+}
 
--- what is given of a stream: all its bytes, or those behind its mark (Encoding Standard, section 6, "decode")
+-- what is given of a stream: all its bytes, or those behind its mark (Encoding Standard, section 6,
+-- "decode")
 abbrev pub stream_bytes : Bool → List ℕ → List ℕ
 stream_bytes strips bytes = if strips then without_mark bytes else bytes
 
 -- what is still to give where the source gives these bytes and then ends
 abbrev pub still : PeekerStanding → List ℕ → List ℕ
-still at rest = if at.peeked then at.waiting ++ rest else stream_bytes at.strips (at.gathered ++ rest)
+still at rest = if at.peeked then at.waiting ++ rest
+    else stream_bytes at.strips (at.gathered ++ rest)
 
 -- the same for what the source has left, where it tells that
 abbrev pub still_known : PeekerStanding → Option (List ℕ) → Option (List ℕ)
 still_known at left = option_map (still at) left
 
--- some bytes were moved from the source: whatever follows them, what was still to give is what was given and what is still to give now. What is gathered
--- are the first three bytes of the stream
-pub record PeekerMoves (left_before left_after : Option (List ℕ)) (before after : PeekerStanding) (given : List ℕ) : Type 0 where
+-- some bytes were moved from the source: whatever follows them, what was still to give is what was
+-- given and what is still to give now. What is gathered are the first three bytes of the stream
+pub record PeekerMoves (left_before left_after : Option (List ℕ)) (before after : PeekerStanding)
+    (given : List ℕ) : Type 0 where
   pub moved : List ℕ
   pub consumed : Consumes left_before left_after moved
-  pub equation : (rest : List ℕ) → (after.ended ≡ true → rest ≡ []) → still before (moved ++ rest) ≡ given ++ still after rest
+  pub equation : (rest : List ℕ) → (after.ended ≡ true → rest ≡ [])
+      → still before (moved ++ rest) ≡ given ++ still after rest
   pub gathered : after.gathered ≡ take 3 (before.gathered ++ moved)
   pub same_strips : after.strips ≡ before.strips
 
@@ -65,7 +76,8 @@ taken_by (Ok n) = n.1
 taken_by (Err e) = 0
 
 -- behind the gathering: bytes that waited were given, or some that the source gave then
-pub record GivesNext (left_before left_after : Option (List ℕ)) (before after : PeekerStanding) (given : List ℕ) (taken : ℕ) : Type 0 where
+pub record GivesNext (left_before left_after : Option (List ℕ)) (before after : PeekerStanding)
+    (given : List ℕ) (taken : ℕ) : Type 0 where
   pub moved : List ℕ
   pub bytes : AreBytes moved
   pub count : length moved ≡ taken
@@ -79,10 +91,12 @@ pub record GivesNext (left_before left_after : Option (List ℕ)) (before after 
 pub record FrontWaits (at : PeekerStanding) : Type 0 where
   pub peeked : at.peeked ≡ true
   pub whole : at.ended ≡ false → length at.gathered ≡ 3
-  pub front : (rest : List ℕ) → (at.ended ≡ true → rest ≡ []) → stream_bytes at.strips (at.gathered ++ rest) ≡ at.waiting ++ rest
+  pub front : (rest : List ℕ) → (at.ended ≡ true → rest ≡ [])
+      → stream_bytes at.strips (at.gathered ++ rest) ≡ at.waiting ++ rest
 
 -- bytes for the mark were gathered
-pub record Gathers (left_before left_after : Option (List ℕ)) (before after : PeekerStanding) : Type 0 where
+pub record Gathers (left_before left_after : Option (List ℕ))
+    (before after : PeekerStanding) : Type 0 where
   pub moved : List ℕ
   pub bytes : AreBytes moved
   pub consumed : Consumes left_before left_after moved

@@ -1,5 +1,6 @@
 //! The options of a reader of a stream's text, and the reader that they make.
-ghost use Rattle.std.specs.Prelude.{◌≡◌, ◌^◌, ◌-◌, ◌<◌, ◌≤◌, Some, None, vec_len, IfOk, IfErr, IsTrue};
+ghost use Rattle.std.specs.Prelude.{◌≡◌, ◌^◌, ◌-◌, ◌<◌, ◌≤◌, Some, None, vec_len, IfOk, IfErr};
+ghost use Rattle.std.specs.Prelude.{IsTrue};
 ghost use Rattle.std.specs.Option.{ForSome};
 ghost use Rattle.enc_front.specs.Indexes.{indexes_of, known};
 ghost use Rattle.enc_io.specs.Options.{default_options, unknown_encoding};

@@ -1,12 +1,14 @@
 //! A reader of a stream that shows its first bytes before they are read, and may leave out a byte
 //! order mark.
-ghost use Rattle.std.specs.Prelude.{◌≡◌, ℕ, ◌+◌, ◌<◌, ◌≤◌, [], ◌++◌, true, false, Ok, None, min, length, take, drop, IsOk, IsNone, IfOk, OnOk, OnErr};
+ghost use Rattle.std.specs.Prelude.{◌≡◌, ℕ, ◌+◌, ◌<◌, ◌≤◌, [], ◌++◌, true, false, Ok, None, min};
+ghost use Rattle.std.specs.Prelude.{length, take, drop, IsOk, IsNone, IfOk, OnOk, OnErr};
 ghost use Rattle.std.specs.Option.{ForSome};
 ghost use Rattle.std.specs.Io.{ReadsAtMost};
 ghost use Rattle.std.specs.Io.KnownBytes.{Consumes, Keeps, IsAtEnd, ReadConsumes};
 ghost use Rattle.enc_drivers.specs.Units.{AreBytes};
 ghost use Rattle.enc_io.specs.Faults.{Rose};
-ghost use Rattle.enc_io.specs.Peeker.{PeekerMoves, Gathers, GivesNext, HasGivenAll, fresh, still_known, given_by, given_within, count_by, taken_by};
+ghost use Rattle.enc_io.specs.Peeker.{PeekerMoves, Gathers, GivesNext, HasGivenAll, fresh};
+ghost use Rattle.enc_io.specs.Peeker.{still_known, given_by, given_within, count_by, taken_by};
 
 use crate::bom::PossibleBom;
 use crate::filling::{give, read_full};

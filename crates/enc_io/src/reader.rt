@@ -1,5 +1,7 @@
 //! A reader of the text of a stream.
-ghost use Rattle.std.specs.Prelude.{◌≡◌, ℕ, ◌+◌, ◌*◌, ◌<◌, ◌≤◌, List, [], ◌++◌, Ok, Err, None, length, take, drop, true, false, is_some, if◌then◌else◌, IsTrue, OnOk, IfOk, IfErr, vec_len};
+ghost use Rattle.std.specs.Prelude.{◌≡◌, ℕ, ◌+◌, ◌*◌, ◌<◌, ◌≤◌, List, [], ◌++◌, Ok, Err, None};
+ghost use Rattle.std.specs.Prelude.{length, take, drop, true, false, is_some, if◌then◌else◌};
+ghost use Rattle.std.specs.Prelude.{IsTrue, OnOk, IfOk, IfErr, vec_len};
 ghost use Rattle.std.specs.Option.{ForSome};
 ghost use Rattle.std.specs.Io.{ReadsAtMost};
 ghost use Rattle.std.specs.Io.KnownBytes.{IsAtEnd};
@@ -13,7 +15,8 @@ ghost use Rattle.enc_io.specs.Peeker.{FrontWaits, HasGivenAll, given_by};
 ghost use Rattle.enc_io.specs.Peeking.{standing_of as peeker_standing};
 ghost use Rattle.enc_io.specs.Pieces.{DecodesPiece};
 ghost use Rattle.enc_io.specs.Reader.{fresh, still, number, has_seen_end, HasTooMuch};
-ghost use Rattle.enc_io.specs.ReaderCalls.{Does, GoesOn, Moves, KeepsUndecided, HasGivenText, turns};
+ghost use Rattle.enc_io.specs.ReaderCalls.{Does, GoesOn, Moves, KeepsUndecided, HasGivenText};
+ghost use Rattle.enc_io.specs.ReaderCalls.{turns};
 ghost use Rattle.enc_io.specs.Text.{chosen};
 ghost use Rattle.enc_io.specs.Tiny.{waiting_of};
 
@@ -332,7 +335,8 @@ impl<'t, S: Source> DecodeReaderBytes<'t, S> {
             × ((standing_of self.old).buffered ≡ []) }
         ensures written { result ≤ length buf.new }
         ensures len { length buf.new ≡ length buf.old }
-        ensures goes_on { GoesOn (standing_of self.old) (standing_of self.new) (take result buf.new) }
+        ensures goes_on { GoesOn (standing_of self.old) (standing_of self.new)
+            (take result buf.new) }
         ensures none { result ≡ 0 → KeepsUndecided (standing_of self.new) }
         ensures end { result ≡ 0 → last ≡ true → HasGivenText (standing_of self.new) }
         ensures same { standing_of self.new ≡ record (standing_of self.old) {
@@ -377,7 +381,8 @@ impl<'t, S: Source> DecodeReaderBytes<'t, S> {
         requires room { 0 < length buf.old }
         ensures written { result ≤ length buf.new }
         ensures len { length buf.new ≡ length buf.old }
-        ensures goes_on { GoesOn (standing_of self.old) (standing_of self.new) (take result buf.new) }
+        ensures goes_on { GoesOn (standing_of self.old) (standing_of self.new)
+            (take result buf.new) }
         ensures none { result ≡ 0 → (standing_of self.new).tiny ≡ [] }
         ensures same { standing_of self.new ≡ record (standing_of self.old)
             { tiny = (standing_of self.new).tiny } }

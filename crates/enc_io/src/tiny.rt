@@ -1,5 +1,6 @@
 //! Decoding where a caller has room for few bytes.
-ghost use Rattle.std.specs.Prelude.{◌≡◌, ℕ, ◌+◌, ◌-◌, ◌*◌, ◌<◌, ◌≤◌, ◌↔◌, Bool, true, false, ◌&&◌, List, [], ◌++◌, min, length, take, drop};
+ghost use Rattle.std.specs.Prelude.{◌≡◌, ℕ, ◌+◌, ◌-◌, ◌*◌, ◌<◌, ◌≤◌, ◌↔◌, Bool, true, false, ◌&&◌};
+ghost use Rattle.std.specs.Prelude.{List, [], ◌++◌, min, length, take, drop};
 ghost use Rattle.enc_drivers.specs.Steps.{MayFollow};
 ghost use Rattle.enc_front.specs.DecoderCalls.{DecoderMayHold, Replaces, has_used_up, owed_count};
 ghost use Rattle.enc_front.specs.Decoder.{text_to_come};

@@ -1,11 +1,11 @@
 -- What masks of lanes say of the lanes.
-use Rattle.std.proofs.Common.{◌≡◌, ℕ, ◌+◌, ◌*◌, ◌-◌, Bool, true, false, Option, None, Some, ◌<◌, ◌≤◌, List, [], ◌∷◌, map, length, cond, not, ◌&&◌, ◌||◌, nat_le, nat_lt, nat_eq, ◌++◌, ◌^◌, refl, sym, subst, ap, ap₂, inl, inr, ◌∙◌, arith}
+use Rattle.std.proofs.Common.{◌≡◌, ℕ, ◌+◌, ◌*◌, ◌-◌, Bool, true, false, None, Some, ◌<◌, ◌≤◌, List, [], ◌∷◌, map, length, cond, not, ◌&&◌, ◌||◌, nat_le, nat_lt, nat_eq, ◌++◌, ◌^◌, refl, sym, subst, ap, ap₂, inl, inr, ◌∙◌, arith}
 use Rattle.std.proofs.Math.Nat.{pow-succ'}
-use Rattle.std.proofs.lemmas.Bool.{cases_lt, cases_eq, cond_below, cond_above}
+use Rattle.std.proofs.lemmas.Bool.{cases_lt, cond_below, cond_above}
 use Rattle.std.proofs.lemmas.Bool.Decides.{nat_tests}
 use Rattle.std.proofs.lemmas.List.Sums.{prefix_len-le-length}
 use Rattle.std.proofs.lemmas.Simd.{leading_from_mask_l, trailing_mask_l, mask_l-lt}
-use Rattle.std.specs.List.{position, list_all, list_any, prefix_len}
+use Rattle.std.specs.List.{position, list_any, prefix_len}
 use lib.Count.{count_trailing_zeros}
 use lib.Lanes.{mask_l}
 use Rattle.enc_strides.specs.Lanes.{is_from, is_in, all_below}

@@ -1,6 +1,7 @@
 -- What kernels say of lanes: of a list of bytes, or of units of UTF-16, which are numbers.
-use Rattle.std.specs.Prelude.{ℕ, ◌+◌, ◌*◌, ◌/◌, ◌%◌, ◌&&◌, ◌||◌, Bool, nat_le, nat_lt, List, [], ◌∷◌, Option, get_or, option_map}
-use Rattle.std.specs.List.{position, list_all, list_any}
+use Rattle.std.specs.Prelude.{ℕ, ◌+◌, ◌*◌, ◌/◌, ◌%◌, ◌&&◌, ◌||◌, Bool, nat_le, nat_lt, List, []}
+use Rattle.std.specs.Prelude.{◌∷◌, Option, get_or, option_map}
+use Rattle.std.specs.List.{position, list_all}
 
 -- the number is at least `least`
 abbrev pub is_from : ℕ → ℕ → Bool
@@ -18,7 +19,8 @@ all_below end xs = list_all (λ x. nat_lt x end) xs
 abbrev pub is_past_ascii : ℕ → Bool
 is_past_ascii x = is_from 0x80 x
 
--- no first byte of a sequence of UTF-8 whose scalar is below U+0100, nor a byte of ASCII, nor one that follows in a sequence
+-- no first byte of a sequence of UTF-8 whose scalar is below U+0100, nor a byte of ASCII, nor one
+-- that follows in a sequence
 abbrev pub is_past_latin1_lead : ℕ → Bool
 is_past_latin1_lead x = is_from 0xC4 x
 
@@ -30,8 +32,9 @@ is_surrogate x = is_in 0xD800 0xE000 x
 abbrev pub first_at : (ℕ → Bool) → List ℕ → Option (ℕ × ℕ)
 first_at passes xs = option_map (λ k. (get_or xs k 0, k)) (position passes xs)
 
--- the units that right-to-left text may have: of the blocks Hebrew to Arabic Extended-A, of the presentation forms of Hebrew and
--- Arabic, the leads of right-to-left planes, and four marks of direction
+-- the units that right-to-left text may have: of the blocks Hebrew to Arabic Extended-A, of the
+-- presentation forms of Hebrew and Arabic, the leads of right-to-left planes, and four marks of
+-- direction
 abbrev pub may_be_bidi : ℕ → Bool
 may_be_bidi x =
     is_in 0x590 0x900 x

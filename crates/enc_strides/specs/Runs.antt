@@ -14,6 +14,8 @@ pub record Copied (src dst : List ℕ) (at : ℕ) : Type 0 where
   pub ascii : at ≤ run_len src
   pub same : take at dst ≡ take at src
 
--- of the n bytes of src at `at`, those before the first past ASCII are copied too: r is how many they are, and none where all are
+-- of the n bytes of src at `at`, those before the first past ASCII are copied too: r is how many
+-- they are, and none where all are
 abbrev pub CopiedOn : List ℕ → List ℕ → ℕ → ℕ → Option ℕ → Type 0
-CopiedOn src dst at n r = MatchOption r (Copied src dst (at + n)) (λ k. Copied src dst (at + k) × (run_len src ≡ at + k))
+CopiedOn src dst at n r =
+    MatchOption r (Copied src dst (at + n)) (λ k. Copied src dst (at + k) × (run_len src ≡ at + k))

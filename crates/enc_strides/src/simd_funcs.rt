@@ -1,7 +1,8 @@
 //! Questions on vectors, and moves between vectors and arrays.
 ghost use Rattle.std.specs.Prelude.{◌≡◌, ◌++◌, ◌≤◌, map, take, drop};
 ghost use Rattle.std.specs.List.{list_any};
-ghost use Rattle.enc_strides.specs.Lanes.{all_below, is_in, is_surrogate, may_be_bidi, swapped, low_byte, units_of};
+ghost use Rattle.enc_strides.specs.Lanes.{all_below, is_in, is_surrogate, may_be_bidi, swapped};
+ghost use Rattle.enc_strides.specs.Lanes.{low_byte, units_of};
 
 use crate::lanes::{bytes_from, units_from, units_in};
 use std::simd::prelude::*;

@@ -2,14 +2,14 @@
 use Rattle.std.proofs.Common.{◌≡◌, ℕ, zero, suc, ◌+◌, ◌-◌, ◌*◌, ◌<◌, ◌≤◌, Bool, true, false, cond, not, ◌&&◌, ◌||◌, eqb, nat_lt, nat_le, List, [], ◌∷◌, ◌++◌, map, length, take, drop, get_or, refl, ap, ap₂, sym, ◌∙◌, subst, arith}
 use Rattle.std.specs.List.{list_all}
 use Rattle.std.proofs.Math.Seq.{take-add, take-append-add}
-use Rattle.std.proofs.lemmas.Bool.{true≢false, false≢true, and_parts, le-ltb, ltb-false, eqb-true, eq-eqb, ne_eqb, or_from, and_left, and_right, not-true, leb-true}
+use Rattle.std.proofs.lemmas.Bool.{false≢true, and_parts, le-ltb, ltb-false, eqb-true, eq-eqb, ne_eqb, or_from, and_left, and_right, not-true, leb-true}
 use Rattle.std.proofs.lemmas.Bool.Decides.{nat_tests}
 use Rattle.std.proofs.lemmas.List.{append_assoc, append-nil, take-append-drop, length-take-le, length-append, take-take, take_at}
 use Rattle.qp.specs.declared.InputMode.{InputMode}
 use Rattle.qp.specs.Items.{Item, plain, escaped, item_text, is_blank, ends_blank, may_stand_within, begins_break, ends_line, octet_item, keeps_breaks, items}
 use Rattle.qp.specs.Layout.{is_hard_break, goes_on, width, breaks_before, laid_out_from}
 use Rattle.qp.specs.Blocks.{within_item, spread, goes_within}
-use Rattle.qp.proofs.ItemLemmas.{items-octet, octet-no_break, goes_on-some, lay-broken, lay-fits, turn-break}
+use Rattle.qp.proofs.ItemLemmas.{items-octet, goes_on-some, lay-broken, lay-fits, turn-break}
 
 -- What is written for octets.
 item_some : (b : ℕ) → 0 < length (item_text (within_item b))

@@ -1,17 +1,16 @@
 -- Sixteen octets at once: their masks, their digits, and four of them at a time.
-use Rattle.std.proofs.Common.{◌≡◌, ℕ, zero, suc, ◌+◌, ◌-◌, ◌*◌, ◌/◌, ◌%◌, ◌^◌, ◌<◌, ◌≤◌, Fits, w8, Bool, true, false, cond, not, ◌&&◌, eqb, leb, ltb, nat_lt, List, [], ◌∷◌, ◌++◌, map, length, take, drop, get_or, refl, ap, ap₂, sym, ◌∙◌, subst, arith}
+use Rattle.std.proofs.Common.{◌≡◌, ℕ, zero, suc, ◌+◌, ◌-◌, ◌*◌, ◌/◌, ◌%◌, ◌^◌, ◌<◌, ◌≤◌, Fits, w8, Bool, true, false, cond, not, eqb, leb, ltb, nat_lt, List, [], ◌∷◌, ◌++◌, map, length, take, drop, get_or, refl, ap, ap₂, sym, ◌∙◌, subst, arith}
 use Rattle.std.specs.List.{range_with_len}
 use Rattle.std.specs.Prelude.{count_ones, replicate}
 use Rattle.std.specs.Simd.Lanes.{Each1, all_below}
 use Rattle.std.proofs.Math.Nat.{pow-succ', mod-eq_of_lt, add-mul-mod_self_left}
-use Rattle.std.proofs.lemmas.Nat.{pow_below}
 use Rattle.std.proofs.lemmas.Bool.{agree_below, agree_below_at, and_parts, eqb-true, leb-true}
 use Rattle.std.proofs.lemmas.Bool.Decides.{nat_tests}
-use Rattle.std.proofs.lemmas.List.{append-nil, nil_from_length, length-append, length-map, take-append-drop, length-take-le, append_assoc, drop-map, take-map, take_at, take-take, take-append-le, get_or_append_left, get_or-append_right, get_or-drop}
+use Rattle.std.proofs.lemmas.List.{append-nil, nil_from_length, length-append, length-map, take-append-drop, length-take-le, append_assoc, drop-map, take-map, take-take, get_or_append_left, get_or-append_right, get_or-drop}
 use Rattle.std.proofs.lemmas.List.FromFn.{get_or-map-range_with_len}
 use Rattle.std.proofs.lemmas.Simd.{map-map, mask_l-mod, mask_l-lt, ones-mask_l_cons, swz_l, SwzOk, SwzOk-from_below, Each1-chunk, get_or-replicate}
-use lib.Lanes.{mask_l, top, chunk, put_chunk}
-use Rattle.qp.specs.Items.{Item, plain, escaped, item_text, hex_digit, may_stand_within}
+use lib.Lanes.{mask_l, top, put_chunk}
+use Rattle.qp.specs.Items.{plain, escaped, item_text, hex_digit, may_stand_within}
 use Rattle.qp.specs.Blocks.{needs_escape, within_item, spread, group_of}
 use Rattle.qp.specs.declared.spread.TheConstants.{DIGITS, PLACES}
 use Rattle.qp.proofs.BlockLemmas.{spread-more, spread-append, length_drop, drop_more}

@@ -1,6 +1,6 @@
 -- Octets within a line of an input, as an encoder writes many of them at once (RFC 2045 section
 -- 6.7, rules 1 and 2).
-use Rattle.std.specs.Prelude.{ℕ, ◌+◌, Bool, true, false, ◌==◌, ◌&&◌, not, if◌then◌else◌, List, []}
+use Rattle.std.specs.Prelude.{ℕ, ◌+◌, Bool, true, ◌==◌, ◌&&◌, not, if◌then◌else◌, List, []}
 use Rattle.std.specs.Prelude.{◌∷◌, ◌++◌, zero, suc, map, take, drop}
 use Rattle.std.specs.Simd.Lanes.{mask_l}
 use Rattle.qp.specs.Items.{Item, plain, escaped, item_text, is_blank, may_stand_within, ends_line}

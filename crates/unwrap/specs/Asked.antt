@@ -1,5 +1,6 @@
 -- What a command line asks for.
-use Rattle.std.specs.Prelude.{ℕ, Bool, not, List, [], ◌∷◌, Option, None, codes, map, string_bytes, String, if◌then◌else◌, option_and_then, unwrap_or}
+use Rattle.std.specs.Prelude.{ℕ, Bool, not, List, [], ◌∷◌, Option, None, codes, map, string_bytes}
+use Rattle.std.specs.Prelude.{String, if◌then◌else◌, option_and_then, unwrap_or}
 use Rattle.std.specs.Option.{option_map}
 use Rattle.std.specs.declared.alloc.Global.{Global}
 use Rattle.std.specs.Str.{bytes_eq}
@@ -34,7 +35,8 @@ stream_view o = record {
   files = map file_view o.files.items;
 }
 
--- the options of a command for quoted-printable text: of an encoder whether its input is any bytes, of a decoder whether it is strict; the most bytes of a line; and of the input
+-- the options of a command for quoted-printable text: of an encoder whether its input is any bytes,
+-- of a decoder whether it is strict; the most bytes of a line; and of the input
 pub record Quoted : Type 0 where
   pub chosen : Bool
   pub line : ℕ
@@ -68,34 +70,41 @@ reader_with rows encoding limit = record {
 -- how a stream is read by what `clap` found, and `None` where a value isn't of its form
 unfoldable pub reader_in : ℕ → List Row → Option ReaderOptions
 reader_in default_limit rows =
-    option_and_then (λ encoding. option_map (reader_with rows encoding) (number_read 0 999999999 default_limit (first_of (codes "limit") rows)))
+    option_and_then (λ encoding. option_map (reader_with rows encoding)
+    (number_read 0 999999999 default_limit (first_of (codes "limit") rows)))
     (encoding_read (first_of (codes "encoding") rows))
 
 abbrev pub stream_with : ReaderOptions → ℕ → ℕ → List (IndexKind × Text) → Stream
-stream_with reader buffer piece files = record { reader = reader; buffer = buffer; piece = piece; files = files }
+stream_with reader buffer piece files =
+    record { reader = reader; buffer = buffer; piece = piece; files = files }
 
 -- the same for all options of a command that reads a stream's text
 unfoldable pub stream_in : ℕ → List Row → Option Stream
 stream_in default_limit rows =
-    option_and_then (λ reader. option_and_then (λ buffer. option_and_then (λ piece. option_map (stream_with reader buffer piece)
+    option_and_then (λ reader.
+    option_and_then (λ buffer.
+    option_and_then (λ piece. option_map (stream_with reader buffer piece)
     (files_read (unwrap_or (all_of (codes "index") rows) [])))
     (number_read 1 1048576 4096 (first_of (codes "piece") rows)))
     (number_read 4 1048576 8192 (first_of (codes "buffer") rows)))
     (reader_in default_limit rows)
 
 abbrev pub quoted_with : Text → List Row → ℕ → ℕ → Quoted
-quoted_with flag rows line limit = record { chosen = has_flag flag rows; line = line; limit = limit }
+quoted_with flag rows line limit =
+    record { chosen = has_flag flag rows; line = line; limit = limit }
 
 -- the same for quoted-printable text
 unfoldable pub quoted_in : Text → List Row → Option Quoted
 quoted_in flag rows =
-    option_and_then (λ line. option_map (quoted_with flag rows line) (number_read 0 999999999 1048576 (first_of (codes "limit") rows)))
+    option_and_then (λ line. option_map (quoted_with flag rows line)
+    (number_read 0 999999999 1048576 (first_of (codes "limit") rows)))
     (number_read 6 998 76 (first_of (codes "line") rows))
 
 -- what `unwrap` is asked for
 abbrev pub unwrap_in : List Row → Option Asked
 unwrap_in rows =
-    option_and_then (λ strategy. option_map (λ stream. Unwrap stream strategy) (stream_in 1048576 rows)) (strategy_read (first_of (codes "strategy") rows))
+    option_and_then (λ strategy. option_map (λ stream. Unwrap stream strategy)
+    (stream_in 1048576 rows)) (strategy_read (first_of (codes "strategy") rows))
 
 -- how many parts `make` is asked for
 abbrev pub make_in : List Row → Option Asked

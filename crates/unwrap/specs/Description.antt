@@ -14,7 +14,8 @@ flag name = record (new_rule name) { long = Some name; action = Some SetTrue }
 
 -- any number of values, also between the options
 abbrev pub values : Text → Rule
-values name = record (new_rule name) { range = Some (record { start_inclusive = 0; end_inclusive = usize_max }) }
+values name = record (new_rule name)
+    { range = Some (record { start_inclusive = 0; end_inclusive = usize_max }) }
 
 -- one value, which has to be there
 abbrev pub one_value : Text → Rule
@@ -39,16 +40,19 @@ abbrev pub with_rules : App → List Rule → App
 with_rules a rules = fold with_rule a rules
 
 unfoldable pub unwrap_app : App
-unwrap_app = with_rules (new_app (codes "unwrap")) (reader_options ++ option (codes "strategy") ∷ pieces)
+unwrap_app = with_rules (new_app (codes "unwrap"))
+    (reader_options ++ option (codes "strategy") ∷ pieces)
 
 unfoldable pub text_app : App
 text_app = with_rules (new_app (codes "text")) (reader_options ++ pieces)
 
 unfoldable pub qp_encode_app : App
-qp_encode_app = with_rules (new_app (codes "qp-encode")) (flag (codes "binary") ∷ option (codes "line") ∷ option (codes "limit") ∷ [])
+qp_encode_app = with_rules (new_app (codes "qp-encode"))
+    (flag (codes "binary") ∷ option (codes "line") ∷ option (codes "limit") ∷ [])
 
 unfoldable pub qp_decode_app : App
-qp_decode_app = with_rules (new_app (codes "qp-decode")) (flag (codes "strict") ∷ option (codes "line") ∷ option (codes "limit") ∷ [])
+qp_decode_app = with_rules (new_app (codes "qp-decode"))
+    (flag (codes "strict") ∷ option (codes "line") ∷ option (codes "limit") ∷ [])
 
 unfoldable pub make_app : App
 make_app = with_rules (new_app (codes "make")) (one_value (codes "parts") ∷ [])

@@ -21,14 +21,18 @@ header_value (Err fault) = Err (InHeader fault)
 -- the header text of a stream's text, where the encoding that is asked for has its indexes
 abbrev pub shown : RecoverStrategy → Options → Indexes → List ℕ → Answer
 shown strategy options indexes bytes =
-    option_map_or (λ encoding. Err (NeedsTable encoding)) (unknown_encoding options indexes) (header_value (header_of strategy options indexes bytes))
+    option_map_or (λ encoding. Err (NeedsTable encoding)) (unknown_encoding options indexes)
+    (header_value (header_of strategy options indexes bytes))
 
 -- what `unwrap` makes of a stream
 abbrev pub unwrapped : Stream → RecoverStrategy → Indexes → List ℕ → Answer
 unwrapped stream strategy indexes = shown strategy (reader_of stream.reader) indexes
 
 -- how `unwrap` ends, by what a shelf tells of its files, a source has left and a sink has taken
-abbrev pub EndsUnwrap : Stream → RecoverStrategy → Option Files → Option (List ℕ) → Option (List ℕ) → Option (List ℕ) → Option (List ℕ) → Status → Type 0
+abbrev pub EndsUnwrap : Stream → RecoverStrategy → Option Files → Option (List ℕ) → Option (List ℕ)
+    → Option (List ℕ) → Option (List ℕ) → Status → Type 0
 EndsUnwrap stream strategy files left left' taken taken' status =
-    WithTables stream.files files status (λ indexes. Delivers (unwrapped stream strategy indexes) stream.reader.limit left left' taken taken' status
+    WithTables stream.files files status
+    (λ indexes. Delivers (unwrapped stream strategy indexes) stream.reader.limit left left' taken
+    taken' status
     × TellsTable (missing stream indexes) status)

@@ -3,7 +3,8 @@ use Rattle.std.specs.Prelude.{⊤}
 use Rattle.words.specs.declared.decoder.Error.{Error}
 use Rattle.words.specs.declared.decoder.Error.TheVariants as words
 use Rattle.unwrap.specs.declared.header.HeaderError.{HeaderError}
-use Rattle.unwrap.specs.declared.header.HeaderError.TheVariants.{Memory, NoTable, ReadFault, TooMuch, Lexer, Parser, Evaluator}
+use Rattle.unwrap.specs.declared.header.HeaderError.TheVariants.{Memory, NoTable, ReadFault}
+use Rattle.unwrap.specs.declared.header.HeaderError.TheVariants.{TooMuch, Lexer, Parser, Evaluator}
 use Rattle.enc_io.specs.declared.builder.BuildError.{BuildError}
 use Rattle.enc_io.specs.declared.builder.BuildError.TheVariants as build
 use Rattle.unwrap.specs.declared.status.Status.{Status}

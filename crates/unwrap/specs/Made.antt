@@ -1,5 +1,7 @@
 -- A long header of words, made from a number, and the line that tells of it.
-use Rattle.std.specs.Prelude.{◌≡◌, ◌≢◌, ◌⊎◌, ℕ, ◌%◌, ◌==◌, if◌then◌else◌, Option, Some, Result, Ok, Err, IsOkAnd, List, [], ◌++◌, length, map, codes, decimal, sum, String, string_bytes, Vec}
+use Rattle.std.specs.Prelude.{◌≡◌, ◌≢◌, ◌⊎◌, ℕ, ◌%◌, ◌==◌, if◌then◌else◌, Option, Some, Result, Ok}
+use Rattle.std.specs.Prelude.{Err, IsOkAnd, List, [], ◌++◌, length, map, codes, decimal, sum}
+use Rattle.std.specs.Prelude.{String, string_bytes, Vec}
 use Rattle.std.specs.declared.alloc.Global.{Global}
 use Rattle.std.specs.Io.KnownBytes.{Appends}
 use Rattle.std.specs.List.{join_with_byte, range_with_len}
@@ -14,7 +16,8 @@ use Rattle.unwrap.specs.Header.{shown}
 use Rattle.unwrap.specs.HeaderErrors.{error_status}
 use Rattle.unwrap.specs.Moves.{AppendsPrefix}
 
--- the part of this number, from 0: a word in UTF-8, a word in ISO-8859-1 or clear text, in turn (RFC 2047, section 2)
+-- the part of this number, from 0: a word in UTF-8, a word in ISO-8859-1 or clear text, in turn
+-- (RFC 2047, section 2)
 abbrev pub part : ℕ → List ℕ
 part i =
     if i % 3 == 0 then codes "=?utf-8?Q?a" ++ decimal i ++ codes "=C3=A9?="
@@ -31,7 +34,9 @@ separator i = if i == 0 then [] else codes " "
 
 -- a header of so many bytes has a text of so many, and this is the sum of the text's bytes
 abbrev pub tell : ℕ → ℕ → ℕ → List ℕ
-tell input output total = ((codes "made " ++ decimal input ++ codes " bytes, ") ++ codes "text " ++ decimal output ++ codes " bytes, ") ++ codes "sum " ++ decimal total ++ codes "\n"
+tell input output total =
+    ((codes "made " ++ decimal input ++ codes " bytes, ") ++ codes "text " ++ decimal output
+    ++ codes " bytes, ") ++ codes "sum " ++ decimal total ++ codes "\n"
 
 -- the line that tells of a header of so many bytes and of its text
 abbrev pub line : ℕ → List ℕ → List ℕ
@@ -53,15 +58,21 @@ line_answer input (Err fault) = Err fault
 abbrev pub summary : ℕ → List ℕ → Answer
 summary input bytes = line_answer input (shown Abort default_options [] bytes)
 
--- how the line of this header was written: as the value of a source that holds the header, which was read as `left` tells
-pub record WritesLine (header : List ℕ) (taken taken' : Option (List ℕ)) (status : Status) : Type 0 where
+-- how the line of this header was written: as the value of a source that holds the header, which
+-- was read as `left` tells
+pub record WritesLine (header : List ℕ) (taken taken' : Option (List ℕ))
+    (status : Status) : Type 0 where
   pub left : Option (List ℕ)
   pub delivers : Delivers (summary (length header)) 999999999 (Some header) left taken taken' status
 
 -- how a command ends that makes a header of so many parts: what a sink has taken, and the status
 pub record TellsMade (parts : ℕ) (taken taken' : Option (List ℕ)) (status : Status) : Type 0 where
   -- what was written is the line of the header and its text, which it has
-  pub headline : status ≡ Done → IsOkAnd (header Abort [] (made parts)) (λ text. Appends taken taken' (line (length (made parts)) text))
-  pub prefix : status ≡ WriteFault → IsOkAnd (header Abort [] (made parts)) (λ text. AppendsPrefix taken taken' (line (length (made parts)) text))
+  pub headline : status ≡ Done
+      → IsOkAnd (header Abort [] (made parts))
+      (λ text. Appends taken taken' (line (length (made parts)) text))
+  pub prefix : status ≡ WriteFault
+      → IsOkAnd (header Abort [] (made parts))
+      (λ text. AppendsPrefix taken taken' (line (length (made parts)) text))
   -- when it succeeds, but for want of memory
   pub complete : status ≢ WriteFault → (status ≡ Done) ⊎ (status ≡ Memory)

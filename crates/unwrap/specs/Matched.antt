@@ -11,7 +11,8 @@ abbrev pub matched_at : Kinds → List Row → Option (List Row)
 matched_at [] rows = Some rows
 matched_at (k ∷ ks) rows = None
 
--- what `clap` finds in the words for a command, where it takes them; the first of the words is passed over
+-- what `clap` finds in the words for a command, where it takes them; the first of the words is
+-- passed over
 unfoldable pub matched_in : App → List Text → Option (List Row)
 matched_in a words = matched_at (fault_of a words) (matches_of a words)
 

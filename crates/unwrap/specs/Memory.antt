@@ -1,7 +1,8 @@
 -- What the devices in memory are.
 use Rattle.std.specs.Prelude.{ℕ, Bool, ◌&&◌, ◌==◌, nat_lt, List, length}
 
--- the bytes taken, how many more have room, the most bytes of one write, the numbers of the writes that fail, how many writes there were, and how many of them failed
+-- the bytes taken, how many more have room, the most bytes of one write, the numbers of the writes
+-- that fail, how many writes there were, and how many of them failed
 pub record SinkInMemory : Type 0 where
   pub taken : List ℕ
   pub room : ℕ
@@ -10,7 +11,8 @@ pub record SinkInMemory : Type 0 where
   pub calls : ℕ
   pub faults : ℕ
 
--- the files by their names, the numbers of the calls that fail, how many calls there were, and how many of them failed
+-- the files by their names, the numbers of the calls that fail, how many calls there were, and how
+-- many of them failed
 pub record ShelfInMemory : Type 0 where
   pub files : List (List ℕ × List ℕ)
   pub failing : List ℕ

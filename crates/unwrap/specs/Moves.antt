@@ -16,14 +16,19 @@ LosesAtMost before after n = (given : List ℕ) × Consumes before after given �
 
 -- a sink took a prefix of the bytes
 abbrev pub AppendsPrefix : Option (List ℕ) → Option (List ℕ) → List ℕ → Type 0
-AppendsPrefix before after bytes = (front : List ℕ) × StartsWith bytes front × Appends before after front
+AppendsPrefix before after bytes = (front : List ℕ) × StartsWith bytes front
+    × Appends before after front
 
 -- why a source's bytes are not all there, and what it then lost
 abbrev pub IsReadError : Option (List ℕ) → Option (List ℕ) → ℕ → ℕ → ℕ → ReadError → Type 0
-IsReadError left left' faults faults' limit ReadFault = Rose faults faults' × LosesAtMost left left' limit
-IsReadError left left' faults faults' limit TooMuch = (faults' ≡ faults) × Loses left left' (limit + 1)
-IsReadError left left' faults faults' limit Memory = (faults' ≡ faults) × LosesAtMost left left' limit
+IsReadError left left' faults faults' limit ReadFault = Rose faults faults'
+    × LosesAtMost left left' limit
+IsReadError left left' faults faults' limit TooMuch = (faults' ≡ faults)
+    × Loses left left' (limit + 1)
+IsReadError left left' faults faults' limit Memory = (faults' ≡ faults)
+    × LosesAtMost left left' limit
 
 -- n bytes that a source gave were appended
 abbrev pub AppendsRead : Option (List ℕ) → Option (List ℕ) → List ℕ → List ℕ → ℕ → Type 0
-AppendsRead left left' bytes bytes' n = (given : List ℕ) × Consumes left left' given × (bytes' ≡ bytes ++ given) × (length given ≡ n)
+AppendsRead left left' bytes bytes' n = (given : List ℕ) × Consumes left left' given
+    × (bytes' ≡ bytes ++ given) × (length given ≡ n)

@@ -11,7 +11,8 @@ use Rattle.unwrap.specs.Delivers.{Answer, InQuoted}
 
 -- quoted-printable text of bytes, which are text, or any bytes under `--binary`
 abbrev pub encoded_value : Quoted → List ℕ → Answer
-encoded_value options bytes = Ok (laid_out options.line (items (if options.chosen then Binary else Text) bytes))
+encoded_value options bytes =
+    Ok (laid_out options.line (items (if options.chosen then Binary else Text) bytes))
 
 -- a value, or a fault, as an answer
 abbrev pub quoted_answer : Result (List ℕ) QuotedPrintableError → Answer
@@ -20,8 +21,10 @@ quoted_answer (Err error) = Err (InQuoted error)
 
 -- what quoted-printable text stands for, or under `--strict` its first fault
 abbrev pub decoded_value : Quoted → List ℕ → Answer
-decoded_value options bytes = quoted_answer (decoded (if options.chosen then Strict else Robust) options.line bytes)
+decoded_value options bytes =
+    quoted_answer (decoded (if options.chosen then Strict else Robust) options.line bytes)
 
 -- the one or the other
 abbrev pub quoted_value : Bool → Quoted → List ℕ → Answer
-quoted_value encodes options bytes = if encodes then encoded_value options bytes else decoded_value options bytes
+quoted_value encodes options bytes = if encodes then encoded_value options bytes
+    else decoded_value options bytes

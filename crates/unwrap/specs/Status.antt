@@ -5,7 +5,9 @@ use Rattle.enc_io.specs.Faults.{Rose}
 use Rattle.enc_io.specs.declared.builder.BuildError.{BuildError}
 use Rattle.enc_io.specs.declared.builder.BuildError.TheVariants as build
 use Rattle.unwrap.specs.declared.status.Status.{Status}
-use Rattle.unwrap.specs.declared.status.Status.TheVariants.{Done, Header, Usage, BadIndex, NoTable, ReadFault, TooMuch, WriteFault, Memory, Shelf, Quoted}
+use Rattle.unwrap.specs.declared.status.Status.TheVariants.{Done, Header, Usage, BadIndex, NoTable}
+use Rattle.unwrap.specs.declared.status.Status.TheVariants.{ReadFault, TooMuch, WriteFault, Memory}
+use Rattle.unwrap.specs.declared.status.Status.TheVariants.{Shelf, Quoted}
 use Rattle.unwrap.specs.declared.status.ReadError.{ReadError}
 use Rattle.unwrap.specs.declared.status.ReadError.TheVariants as read
 

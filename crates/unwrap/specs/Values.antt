@@ -1,5 +1,6 @@
 -- Values of a command line.
-use Rattle.std.specs.Prelude.{ℕ, ◌==◌, nat_lt, Bool, false, List, [], ◌∷◌, length, map, Option, Some, None, codes, if◌then◌else◌, option_and_then}
+use Rattle.std.specs.Prelude.{ℕ, ◌==◌, nat_lt, Bool, false, List, [], ◌∷◌, length, map, Option}
+use Rattle.std.specs.Prelude.{Some, None, codes, if◌then◌else◌, option_and_then}
 use Rattle.std.specs.Borrow.{Bor}
 use Rattle.std.specs.Option.{option_map}
 use Rattle.std.specs.List.{before_first, after_first, position_or_len}
@@ -74,4 +75,5 @@ file_view file = (file.kind, file.name.now)
 -- index files, one a word
 abbrev pub files_read : List (List ℕ) → Option (List (IndexKind × List ℕ))
 files_read [] = Some []
-files_read (word ∷ words) = option_and_then (λ file. option_map (λ files. file ∷ files) (files_read words)) (file_of word)
+files_read (word ∷ words) =
+    option_and_then (λ file. option_map (λ files. file ∷ files) (files_read words)) (file_of word)

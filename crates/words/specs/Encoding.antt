@@ -3,7 +3,9 @@ use Rattle.std.specs.Prelude.{ℕ, ◌||◌, ◌==◌, if◌then◌else◌, List
 use Rattle.words.specs.declared.parser.Encoding.{Encoding}
 use Rattle.words.specs.declared.parser.Encoding.TheVariants.{B, Q}
 use Rattle.words.specs.declared.parser.ParserError.{ParserError}
-use Rattle.words.specs.declared.parser.ParserError.TheVariants.{ParseEncodingTooBigError, ParseEncodingEmptyError, ParseEncodingError}
+use Rattle.words.specs.declared.parser.ParserError.TheVariants.{ParseEncodingTooBigError}
+use Rattle.words.specs.declared.parser.ParserError.TheVariants.{ParseEncodingEmptyError}
+use Rattle.words.specs.declared.parser.ParserError.TheVariants.{ParseEncodingError}
 
 -- the encoding that one byte names: B or Q, RFC 2047, section 4, in either case, section 2
 abbrev pub encoding_of_byte : ℕ → Result Encoding ParserError

@@ -18,7 +18,8 @@ pub data HeaderFault : Type 0 where
   EncodingTooBig : HeaderFault
   -- the first word whose encoding field names no encoding has this one byte there
   EncodingUnknown : ℕ → HeaderFault
-  -- the first part without a text is clear text or a skipped word that isn't UTF-8, whose longest UTF-8 front has this length
+  -- the first part without a text is clear text or a skipped word that isn't UTF-8, whose longest
+  -- UTF-8 front has this length
   NotUtf8 : ℕ → HeaderFault
   -- the first part without a text is a B word whose text isn't Base64
   NotBase64 : HeaderFault
@@ -29,7 +30,8 @@ lexer_fault (lexer.ParseBytesError message) = None
 lexer_fault (lexer.ParseEncodedWordTooLongError words) = Some (TooLong (texts_of words))
 lexer_fault lexer.Memory = None
 
--- the fault of a header that an error of the parser tells; no word of a header has an empty encoding field
+-- the fault of a header that an error of the parser tells; no word of a header has an empty
+-- encoding field
 abbrev pub parser_fault : ParserError → Option HeaderFault
 parser_fault parser.ParseEncodingTooBigError = Some EncodingTooBig
 parser_fault parser.ParseEncodingEmptyError = None
@@ -45,7 +47,8 @@ evaluator_fault evaluator.Memory = None
 
 -- an error where there is no text for this fault, or for want of memory
 abbrev pub IsTextFault : Result (List ℕ) HeaderFault → EvaluatorError → Type 0
-IsTextFault text error = (error ≡ evaluator.Memory) ⊎ IsSomeAnd (evaluator_fault error) (λ fault. text ≡ Err fault)
+IsTextFault text error = (error ≡ evaluator.Memory)
+    ⊎ IsSomeAnd (evaluator_fault error) (λ fault. text ≡ Err fault)
 
 -- the fault of a header that an error tells, if it tells one
 abbrev pub fault_of : Error → Option HeaderFault
@@ -57,7 +60,8 @@ fault_of Memory = None
 -- an error of the lexer as one of a header
 abbrev pub from_lexer : LexerError → Error
 from_lexer (lexer.ParseBytesError message) = Lexer (lexer.ParseBytesError message)
-from_lexer (lexer.ParseEncodedWordTooLongError words) = Lexer (lexer.ParseEncodedWordTooLongError words)
+from_lexer (lexer.ParseEncodedWordTooLongError words) =
+    Lexer (lexer.ParseEncodedWordTooLongError words)
 from_lexer lexer.Memory = Memory
 
 -- an error of the parser as one of a header
@@ -69,7 +73,9 @@ from_parser parser.Memory = Memory
 
 -- an error of the evaluator as one of a header
 abbrev pub from_evaluator : EvaluatorError → Error
-from_evaluator (evaluator.DecodeUtf8Error valid_up_to) = Evaluator (evaluator.DecodeUtf8Error valid_up_to)
+from_evaluator (evaluator.DecodeUtf8Error valid_up_to) =
+    Evaluator (evaluator.DecodeUtf8Error valid_up_to)
 from_evaluator evaluator.DecodeBase64Error = Evaluator evaluator.DecodeBase64Error
-from_evaluator (evaluator.DecodeQuotedPrintableError error) = Evaluator (evaluator.DecodeQuotedPrintableError error)
+from_evaluator (evaluator.DecodeQuotedPrintableError error) =
+    Evaluator (evaluator.DecodeQuotedPrintableError error)
 from_evaluator evaluator.Memory = Memory

@@ -1,5 +1,6 @@
 -- The text of a header, or why it has none: RFC 2047, sections 4 and 6.
-use Rattle.std.specs.Prelude.{ℕ, ◌==◌, if◌then◌else◌, Option, Some, None, Result, Ok, Err, List, [], ◌∷◌, map}
+use Rattle.std.specs.Prelude.{ℕ, ◌==◌, if◌then◌else◌, Option, Some, None, Result, Ok, Err, List, []}
+use Rattle.std.specs.Prelude.{◌∷◌, map}
 use Rattle.std.specs.Option.{option_or}
 use Rattle.std.specs.Str.{is_utf8}
 use Rattle.std.specs.Str.Lossy.{utf8_valid_len}
@@ -44,18 +45,23 @@ shown_value shown (Some value) = Ok (shown value)
 abbrev pub clear_text : List ℕ → Text
 clear_text bytes = if is_utf8 bytes then Ok bytes else Err (NotUtf8 (utf8_valid_len bytes))
 
--- the value of a text under the encoding that a field names; there is none where the field names none
+-- the value of a text under the encoding that a field names; there is none where the field names
+-- none
 abbrev pub value_by : Result Encoding ParserError → List ℕ → Option (List ℕ)
 value_by (Ok encoding) text = value_of encoding text
 value_by (Err error) text = None
 
--- the text of a word that is decoded: the value of its text in its charset. Where its encoding field names no encoding this is a fault like that of a wrong B text, and never a header's, since `parts_text` looks for faults of encoding fields first
+-- the text of a word that is decoded: the value of its text in its charset. Where its encoding
+-- field names no encoding this is a fault like that of a wrong B text, and never a header's, since
+-- `parts_text` looks for faults of encoding fields first
 abbrev pub word_text : Indexes → Word → Text
-word_text indexes w = shown_value (charset_text w.charset indexes) (value_by (encoding_of w.encoding) w.text)
+word_text indexes w =
+    shown_value (charset_text w.charset indexes) (value_by (encoding_of w.encoding) w.text)
 
 -- the text of a part: of a gap it is empty, and a skipped word is shown as it is spelled
 abbrev pub part_text : RecoverStrategy → Indexes → Part → Text
-part_text strategy indexes (Encoded w) = if is_skipped strategy w then clear_text (spelling w) else word_text indexes w
+part_text strategy indexes (Encoded w) = if is_skipped strategy w then clear_text (spelling w)
+    else word_text indexes w
 part_text strategy indexes (Clear text) = clear_text text
 part_text strategy indexes (Gap text) = Ok []
 
@@ -66,14 +72,16 @@ field_fault (Err error) = parser_fault error
 
 -- the fault of a part's encoding field; that of a skipped word is not looked at
 abbrev pub part_encoding_fault : RecoverStrategy → Part → Option HeaderFault
-part_encoding_fault strategy (Encoded w) = if is_skipped strategy w then None else field_fault (encoding_of w.encoding)
+part_encoding_fault strategy (Encoded w) = if is_skipped strategy w then None
+    else field_fault (encoding_of w.encoding)
 part_encoding_fault strategy (Clear text) = None
 part_encoding_fault strategy (Gap text) = None
 
 -- the fault of the first encoding field that has one
 abbrev pub encoding_fault : RecoverStrategy → List Part → Option HeaderFault
 encoding_fault strategy [] = None
-encoding_fault strategy (part ∷ rest) = option_or (part_encoding_fault strategy part) (encoding_fault strategy rest)
+encoding_fault strategy (part ∷ rest) =
+    option_or (part_encoding_fault strategy part) (encoding_fault strategy rest)
 
 -- the refusal of these words, which are too long
 abbrev pub length_fault : List Word → Option HeaderFault
@@ -85,7 +93,8 @@ abbrev pub unless_fault : Option HeaderFault → Text → Text
 unless_fault None text = text
 unless_fault (Some fault) text = Err fault
 
--- the text of a header by its parts: too long words refuse it first, then encoding fields, then parts without a text
+-- the text of a header by its parts: too long words refuse it first, then encoding fields, then
+-- parts without a text
 abbrev pub parts_text : RecoverStrategy → Indexes → List Part → Text
 parts_text strategy indexes parts =
     unless_fault (length_fault (too_long_words strategy parts))

@@ -1,5 +1,6 @@
 -- What the lexer finds.
-use Rattle.std.specs.Prelude.{◌≡◌, ℕ, ◌<◌, Bool, ◌&&◌, if◌then◌else◌, Some, None, List, [], ◌∷◌, ◌++◌, length, drop}
+use Rattle.std.specs.Prelude.{◌≡◌, ℕ, ◌<◌, Bool, ◌&&◌, if◌then◌else◌, Some, None, List, [], ◌∷◌}
+use Rattle.std.specs.Prelude.{◌++◌, length, drop}
 use Rattle.std.specs.List.{list_all}
 use Rattle.words.specs.Word.{Word, spelling, word_at}
 use Rattle.words.specs.Reading.{Part, Encoded, Clear, is_gap_byte}
@@ -9,7 +10,11 @@ use Rattle.words.specs.declared.lexer.TokenSlice.TheVariants as slice
 
 -- the word that the slices show
 abbrev pub sliced_word : WordSlices → Word
-sliced_word slices = record { charset = slices.charset.now; encoding = slices.encoding.now; text = slices.encoded_text.now }
+sliced_word slices = record {
+  charset = slices.charset.now;
+  encoding = slices.encoding.now;
+  text = slices.encoded_text.now;
+}
 
 -- the part that a token shows, where it stands in the header
 abbrev pub token_part : TokenSlice → Part
@@ -33,4 +38,5 @@ pub record IsFirstWord (s before : List ℕ) (w : Word) (after : List ℕ) : Typ
 -- text outside of words as tokens: none where it is empty, or a gap between two words
 abbrev pub text_tokens : Bool → List ℕ → List Part
 text_tokens between_words [] = []
-text_tokens between_words (b ∷ bs) = if between_words && list_all is_gap_byte (b ∷ bs) then [] else Clear (b ∷ bs) ∷ []
+text_tokens between_words (b ∷ bs) = if between_words && list_all is_gap_byte (b ∷ bs) then []
+    else Clear (b ∷ bs) ∷ []

@@ -18,7 +18,8 @@ use Rattle.words.specs.Encoding.{encoding_of}
 use Rattle.words.specs.Joined.{join_lists, one_element}
 use Rattle.words.specs.Header.{Text, clear_text, value_of, shown_value}
 
--- a token after parsing: clear text, or a word by its charset, if that is known, its encoding and its text
+-- a token after parsing: clear text, or a word by its charset, if that is known, its encoding and
+-- its text
 pub data Parsed : Type 0 where
   ParsedClear : List ℕ → Parsed
   ParsedWord : Option front.Encoding → Encoding → List ℕ → Parsed
@@ -26,22 +27,26 @@ pub data Parsed : Type 0 where
 -- what a parsed word shows
 abbrev pub parsed_of : ParsedEncodedWord → Parsed
 parsed_of (variant.ClearText text) = ParsedClear text.items
-parsed_of (variant.EncodedWord found encoding text) = ParsedWord (option_map charsets.encoding_of found) encoding text.items
+parsed_of (variant.EncodedWord found encoding text) =
+    ParsedWord (option_map charsets.encoding_of found) encoding text.items
 
 -- the charset of a parsed word is one that the indexes have
 abbrev pub IsKnown : Indexes → ParsedEncodedWord → Type 0
 IsKnown indexes (variant.ClearText text) = Unit {0}
-IsKnown indexes (variant.EncodedWord found encoding text) = IfSome found (λ charset. IsTrue (known (charsets.encoding_of charset) indexes))
+IsKnown indexes (variant.EncodedWord found encoding text) =
+    IfSome found (λ charset. IsTrue (known (charsets.encoding_of charset) indexes))
 
 -- what a parsed word shows, where its text stands in the header
 abbrev pub sliced_of : ParsedSlice → Parsed
 sliced_of (slice.ClearText text) = ParsedClear text.now
-sliced_of (slice.EncodedWord found encoding text) = ParsedWord (option_map charsets.encoding_of found) encoding text.now
+sliced_of (slice.EncodedWord found encoding text) =
+    ParsedWord (option_map charsets.encoding_of found) encoding text.now
 
 -- the charset of that is one that the indexes have
 abbrev pub IsKnownSlice : Indexes → ParsedSlice → Type 0
 IsKnownSlice indexes (slice.ClearText text) = Unit {0}
-IsKnownSlice indexes (slice.EncodedWord found encoding text) = IfSome found (λ charset. IsTrue (known (charsets.encoding_of charset) indexes))
+IsKnownSlice indexes (slice.EncodedWord found encoding text) =
+    IfSome found (λ charset. IsTrue (known (charsets.encoding_of charset) indexes))
 
 -- the charset is that of the label, where the indexes have it
 pub record IsCharset (indexes : Indexes) (last : LastCharset) : Type 0 where
@@ -49,7 +54,8 @@ pub record IsCharset (indexes : Indexes) (last : LastCharset) : Type 0 where
   pub known : IfSome last.charset (λ found. IsTrue (known (charsets.encoding_of found) indexes))
 
 -- a word under its encoding, or the error that its encoding field has
-abbrev pub under_encoding : Option front.Encoding → List ℕ → Result Encoding ParserError → Result Parsed ParserError
+abbrev pub under_encoding : Option front.Encoding → List ℕ → Result Encoding ParserError
+    → Result Parsed ParserError
 under_encoding found text (Ok encoding) = Ok (ParsedWord found encoding text)
 under_encoding found text (Err error) = Err error
 
@@ -69,12 +75,14 @@ parsed_parts indexes parts = join_lists (map (λ part. one_element (parsed_part 
 
 -- bytes in a charset, or in ASCII where the charset is unknown
 abbrev pub in_charset : Option front.Encoding → Indexes → List ℕ → List ℕ
-in_charset found indexes bytes = option_map_or (λ encoding. marked_text encoding indexes bytes) found (ascii_text bytes)
+in_charset found indexes bytes = option_map_or (λ encoding. marked_text encoding indexes bytes)
+    found (ascii_text bytes)
 
 -- the text of a parsed part
 abbrev pub parsed_text : Indexes → Parsed → Text
 parsed_text indexes (ParsedClear text) = clear_text text
-parsed_text indexes (ParsedWord found encoding text) = shown_value (in_charset found indexes) (value_of encoding text)
+parsed_text indexes (ParsedWord found encoding text) =
+    shown_value (in_charset found indexes) (value_of encoding text)
 
 -- the texts of parsed parts joined, or the first fault among them
 abbrev pub parsed_texts : Indexes → List Parsed → Text

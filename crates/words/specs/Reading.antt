@@ -1,5 +1,8 @@
--- How a header is cut into encoded words, clear text and the gaps between words: RFC 2047, sections 2 and 6.2.
-use Rattle.std.specs.Prelude.{◌≡◌, ℕ, zero, suc, ◌-◌, ◌<◌, Bool, true, false, ◌||◌, ◌&&◌, ◌==◌, if◌then◌else◌, Option, Some, None, List, [], ◌∷◌, ◌++◌, length, drop, IsTrue}
+-- How a header is cut into encoded words, clear text and the gaps between words: RFC 2047, sections
+-- 2 and 6.2.
+use Rattle.std.specs.Prelude.{◌≡◌, ℕ, zero, suc, ◌-◌, ◌<◌, Bool, true, false, ◌||◌, ◌&&◌, ◌==◌}
+use Rattle.std.specs.Prelude.{if◌then◌else◌, Option, Some, None, List, [], ◌∷◌, ◌++◌, length, drop}
+use Rattle.std.specs.Prelude.{IsTrue}
 use Rattle.std.specs.List.{All, flat_map, list_all}
 use Rattle.words.specs.Word.{Word, spelling, BeginsWith, word_at}
 
@@ -19,7 +22,8 @@ part_spelling (Gap text) = text
 abbrev pub spellings : List Part → List ℕ
 spellings parts = flat_map part_spelling parts
 
--- space, tab, LF, FF or CR: what may stand in a gap, RFC 2047, section 6.2, `linear-white-space`, widened by FF and by CR and LF alone
+-- space, tab, LF, FF or CR: what may stand in a gap, RFC 2047, section 6.2, `linear-white-space`,
+-- widened by FF and by CR and LF alone
 abbrev pub is_gap_byte : ℕ → Bool
 is_gap_byte b = b == 32 || b == 9 || b == 10 || b == 12 || b == 13
 
@@ -56,7 +60,8 @@ pub record IsGapPlace (front : List Part) (text : List ℕ) (rest : List Part) :
   pub after_word : EndsInWord front
   pub before_word : BeginsInWord rest
 
--- the parts are a reading of the list; words may begin anywhere, also where no white space stands beside them as RFC 2047, section 5, wants it
+-- the parts are a reading of the list; words may begin anywhere, also where no white space stands
+-- beside them as RFC 2047, section 5, wants it
 pub record IsReading (s : List ℕ) (parts : List Part) : Type 0 where
   -- the parts' spellings join to the list
   pub joins : spellings parts ≡ s
@@ -64,22 +69,27 @@ pub record IsReading (s : List ℕ) (parts : List Part) : Type 0 where
   pub words : (front rest : List Part) (w : Word) → parts ≡ front ++ Encoded w ∷ rest
       → BeginsWith (spellings (Encoded w ∷ rest)) w
   -- no word begins inside clear text
-  pub no_word : (front rest : List Part) (text : List ℕ) (k : ℕ) (w : Word) → parts ≡ front ++ Clear text ∷ rest
+  pub no_word : (front rest : List Part) (text : List ℕ) (k : ℕ) (w : Word)
+      → parts ≡ front ++ Clear text ∷ rest
       → k < length text → ¬ BeginsWith (drop k (spellings (Clear text ∷ rest))) w
-  pub clear : (front rest : List Part) (text : List ℕ) → parts ≡ front ++ Clear text ∷ rest → IsClearPlace front text rest
-  pub gap : (front rest : List Part) (text : List ℕ) → parts ≡ front ++ Gap text ∷ rest → IsGapPlace front text rest
+  pub clear : (front rest : List Part) (text : List ℕ) → parts ≡ front ++ Clear text ∷ rest
+      → IsClearPlace front text rest
+  pub gap : (front rest : List Part) (text : List ℕ) → parts ≡ front ++ Gap text ∷ rest
+      → IsGapPlace front text rest
 
 -- a word, or a byte that stands outside of words
 pub data Piece : Type 0 where
   Whole : Word → Piece
   Single : ℕ → Piece
 
--- the word that stands first, and the pieces after as many more bytes as it has; or the first byte alone, and the pieces after it
+-- the word that stands first, and the pieces after as many more bytes as it has; or the first byte
+-- alone, and the pieces after it
 abbrev pub piece_at : Option Word → ℕ → (ℕ → List Piece) → List Piece
 piece_at None b pieces = Single b ∷ pieces 0
 piece_at (Some w) b pieces = Whole w ∷ pieces (length (spelling w) - 1)
 
--- the words of a list from left to right and the bytes outside of them; the first `left` bytes still belong to a word
+-- the words of a list from left to right and the bytes outside of them; the first `left` bytes
+-- still belong to a word
 unfoldable pub pieces_after : ℕ → List ℕ → List Piece
 pieces_after left [] = []
 pieces_after (suc left) (b ∷ bs) = pieces_after left bs
@@ -106,13 +116,15 @@ begins_in_word (Gap text ∷ rest) = false
 
 -- text between parts: a gap where it stands between two words and is of gap bytes alone
 abbrev pub clear_or_gap : Bool → List ℕ → Part
-clear_or_gap between_words text = if between_words && list_all is_gap_byte text then Gap text else Clear text
+clear_or_gap between_words text = if between_words && list_all is_gap_byte text then Gap text
+    else Clear text
 
 -- the gaps told from clear text: `after_word` tells whether a word stands before the parts
 abbrev pub with_gaps : Bool → List Part → List Part
 with_gaps after_word [] = []
 with_gaps after_word (Encoded w ∷ rest) = Encoded w ∷ with_gaps true rest
-with_gaps after_word (Clear text ∷ rest) = clear_or_gap (after_word && begins_in_word rest) text ∷ with_gaps false rest
+with_gaps after_word (Clear text ∷ rest) = clear_or_gap (after_word && begins_in_word rest) text
+    ∷ with_gaps false rest
 with_gaps after_word (Gap text ∷ rest) = Gap text ∷ with_gaps false rest
 
 -- the only reading of a list (`laws::one_reading`)

@@ -1,4 +1,5 @@
--- B texts without the spare bits of their last letters, as the only ones that a strict decoder takes.
+-- B texts without the spare bits of their last letters, as the only ones that a strict decoder
+-- takes.
 use Rattle.std.specs.Prelude.{ℕ, ◌-◌, ◌*◌, ◌/◌, ◌^◌, List, length, slice_index, slice_set, codes}
 use Rattle.words.specs.Base64.{letter_value, letters, padding_len}
 

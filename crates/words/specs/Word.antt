@@ -1,5 +1,7 @@
 -- Encoded words: RFC 2047, section 2.
-use Rattle.std.specs.Prelude.{ℕ, ◌<◌, Bool, not, ◌||◌, ◌&&◌, ◌==◌, nat_le, nat_lt, nat_eq, if◌then◌else◌, Option, Some, None, List, ◌++◌, length, drop, IsTrue, codes}
+use Rattle.std.specs.Prelude.{ℕ, ◌<◌, Bool, not, ◌||◌, ◌&&◌, ◌==◌, nat_le, nat_lt, nat_eq}
+use Rattle.std.specs.Prelude.{if◌then◌else◌, Option, Some, None, List, ◌++◌, length, drop, IsTrue}
+use Rattle.std.specs.Prelude.{codes}
 use Rattle.std.specs.List.{All, list_any, list_all, before_first, after_first, starts_with}
 use Rattle.std.specs.Io.{StartsWith}
 
@@ -9,11 +11,13 @@ pub record Word : Type 0 where
   pub encoding : List ℕ
   pub text : List ℕ
 
--- the bytes that a charset or encoding field lacks besides white space and controls, the quotation mark aside: RFC 2047, section 2, `especials`
+-- the bytes that a charset or encoding field lacks besides white space and controls, the quotation
+-- mark aside: RFC 2047, section 2, `especials`
 abbrev pub especials : List ℕ
 especials = codes "()<>@,;:/[]?.="
 
--- a byte of a charset or encoding field, no space, no control and no especial: RFC 2047, section 2, `token`, widened by bytes past ASCII
+-- a byte of a charset or encoding field, no space, no control and no especial: RFC 2047, section 2,
+-- `token`, widened by bytes past ASCII
 abbrev pub is_field_byte : ℕ → Bool
 is_field_byte b = not (nat_le b 32 || b == 127 || list_any (λ e. e == b) especials)
 
@@ -21,7 +25,8 @@ is_field_byte b = not (nat_le b 32 || b == 127 || list_any (λ e. e == b) especi
 abbrev pub IsField : List ℕ → Type 0
 IsField field = (0 < length field) × All (λ b. IsTrue (is_field_byte b)) field
 
--- a byte of an encoded text, no question mark and no space: RFC 2047, section 2, `encoded-text`, widened by line ends, controls and bytes past ASCII
+-- a byte of an encoded text, no question mark and no space: RFC 2047, section 2, `encoded-text`,
+-- widened by line ends, controls and bytes past ASCII
 abbrev pub is_text_byte : ℕ → Bool
 is_text_byte b = not (b == 63 || b == 32)
 
@@ -66,4 +71,5 @@ is_word w = is_field w.charset && is_field w.encoding && list_all is_text_byte w
 
 -- the word that begins the list, if one does
 unfoldable pub word_at : List ℕ → Option Word
-word_at s = if is_word (fields_of s) && starts_with nat_eq s (spelling (fields_of s)) then Some (fields_of s) else None
+word_at s = if is_word (fields_of s) && starts_with nat_eq s (spelling (fields_of s))
+    then Some (fields_of s) else None

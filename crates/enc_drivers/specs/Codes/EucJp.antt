@@ -1,5 +1,6 @@
 -- The units of EUC-JP (Encoding Standard, section 12.1.1, EUC-JP decoder).
-use Rattle.std.specs.Prelude.{ℕ, ◌+◌, ◌-◌, ◌*◌, ◌/◌, ◌%◌, Bool, ◌==◌, ◌&&◌, ◌||◌, nat_le, nat_lt, if◌then◌else◌, List, [], ◌∷◌, Option, Some, None, option_map}
+use Rattle.std.specs.Prelude.{ℕ, ◌+◌, ◌-◌, ◌*◌, ◌/◌, ◌%◌, Bool, ◌==◌, ◌&&◌, ◌||◌, nat_le, nat_lt}
+use Rattle.std.specs.Prelude.{if◌then◌else◌, List, [], ◌∷◌, Option, Some, None, option_map}
 use Rattle.enc_drivers.specs.declared.unit.Mode.{Mode}
 use Rattle.enc_drivers.specs.Units.{UnitAt, scalar_at, malformed_at}
 use Rattle.enc_drivers.specs.Lookup.{Places, least_place}
@@ -36,7 +37,8 @@ euc_jp_sequence jis0208 jis0212 mode a (b ∷ rest) =
     if a == 0x8F && in_row b then jis0212_unit jis0212 mode b rest
     else sequence_unit mode (euc_jp_scalar jis0208 a b) 2 b
 
--- ASCII as it is, a sequence behind a lead, and any other byte malformed; what the end cuts is malformed with all that is left
+-- ASCII as it is, a sequence behind a lead, and any other byte malformed; what the end cuts is
+-- malformed with all that is left
 unfoldable pub euc_jp_unit : Places → Places → Mode → List ℕ → UnitAt
 euc_jp_unit jis0208 jis0212 mode [] = malformed_at mode 0
 euc_jp_unit jis0208 jis0212 mode (a ∷ rest) =
@@ -52,12 +54,13 @@ euc_jp_bytes place = (place / 94 + 0xA1) ∷ (place % 94 + 0xA1) ∷ []
 abbrev pub minus_as_hyphen : ℕ → ℕ
 minus_as_hyphen scalar = if scalar == 0x2212 then 0xFF0D else scalar
 
--- the bytes of a scalar: ASCII, the yen sign, the overline and half-width katakana by number, and else those of the least place of
--- jis0208 (Encoding Standard, section 12.1.2, EUC-JP encoder)
+-- the bytes of a scalar: ASCII, the yen sign, the overline and half-width katakana by number, and
+-- else those of the least place of jis0208 (Encoding Standard, section 12.1.2, EUC-JP encoder)
 unfoldable pub euc_jp_bytes_of : Places → BytesOf
 euc_jp_bytes_of jis0208 scalar =
     if nat_lt scalar 0x80 then Some (scalar ∷ [])
     else (if scalar == 0xA5 then Some (0x5C ∷ [])
     else (if scalar == 0x203E then Some (0x7E ∷ [])
-    else (if nat_le 0xFF61 scalar && nat_le scalar 0xFF9F then Some (0x8E ∷ (scalar - 0xFF61 + 0xA1) ∷ [])
+    else (if nat_le 0xFF61 scalar && nat_le scalar 0xFF9F
+    then Some (0x8E ∷ (scalar - 0xFF61 + 0xA1) ∷ [])
     else option_map euc_jp_bytes (least_place jis0208 (minus_as_hyphen scalar) 8836))))

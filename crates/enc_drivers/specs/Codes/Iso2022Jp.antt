@@ -1,5 +1,7 @@
 -- The units of ISO-2022-JP (Encoding Standard, section 12.2.1, ISO-2022-JP decoder).
-use Rattle.std.specs.Prelude.{◌≡◌, ◌<◌, ◌≤◌, ℕ, ◌+◌, ◌-◌, ◌*◌, ◌/◌, ◌%◌, Bool, false, ◌==◌, ◌&&◌, ◌||◌, nat_le, nat_lt, if◌then◌else◌, List, [], ◌∷◌, Option, Some, None}
+use Rattle.std.specs.Prelude.{◌≡◌, ◌<◌, ◌≤◌, ℕ, ◌+◌, ◌-◌, ◌*◌, ◌/◌, ◌%◌, Bool, false, ◌==◌, ◌&&◌}
+use Rattle.std.specs.Prelude.{◌||◌, nat_le, nat_lt, if◌then◌else◌, List, [], ◌∷◌, Option, Some}
+use Rattle.std.specs.Prelude.{None}
 use Rattle.enc_drivers.specs.declared.unit.Item.{Item}
 use Rattle.enc_drivers.specs.declared.unit.Item.TheVariants.{Malformed, Silent}
 use Rattle.enc_drivers.specs.declared.unit.JisSet.{JisSet}
@@ -16,7 +18,8 @@ set_of Plain = Ascii
 set_of (Within set) = set
 set_of (AfterEscape set) = set
 
--- what an escape sequence stands for: an error where another stands directly before it (the standard's output flag), and else nothing
+-- what an escape sequence stands for: an error where another stands directly before it (the
+-- standard's output flag), and else nothing
 abbrev pub escape_item : Mode → Item
 escape_item Plain = Silent
 escape_item (Within set) = Silent
@@ -31,7 +34,8 @@ escape_set b c =
     else (if b == 0x24 && (c == 0x40 || c == 0x42) then Some Jis0208
     else None)))
 
--- the unit of 1B, with the set that the bytes behind it name; where they name none, 1B alone is malformed
+-- the unit of 1B, with the set that the bytes behind it name; where they name none, 1B alone is
+-- malformed
 abbrev pub escaped : Mode → Option JisSet → UnitAt
 escaped mode (Some set) = record { item = escape_item mode; len = 3; next = AfterEscape set }
 escaped mode None = malformed_at (Within (set_of mode)) 1
@@ -79,7 +83,8 @@ is_jis_lead Roman b = false
 is_jis_lead Katakana b = false
 is_jis_lead Jis0208 b = in_jis_row b
 
--- a lead a, with what is behind it: a second byte, which is not given back where it fails; before an escape and the end the lead alone is malformed
+-- a lead a, with what is behind it: a second byte, which is not given back where it fails; before
+-- an escape and the end the lead alone is malformed
 unfoldable pub jis_pair : Places → Mode → ℕ → List ℕ → UnitAt
 jis_pair jis0208 next a [] = malformed_at next 1
 jis_pair jis0208 next a (b ∷ rest) =

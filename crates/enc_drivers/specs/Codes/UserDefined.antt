@@ -1,5 +1,6 @@
 -- The units of x-user-defined (Encoding Standard, section 14.5.1, x-user-defined decoder).
-use Rattle.std.specs.Prelude.{ℕ, ◌+◌, ◌-◌, nat_lt, if◌then◌else◌, List, [], ◌∷◌, ◌&&◌, nat_le, Some, None}
+use Rattle.std.specs.Prelude.{ℕ, ◌+◌, ◌-◌, nat_lt, if◌then◌else◌, List, [], ◌∷◌, ◌&&◌, nat_le, Some}
+use Rattle.std.specs.Prelude.{None}
 use Rattle.enc_drivers.specs.declared.unit.Mode.{Mode}
 use Rattle.enc_drivers.specs.Units.{UnitAt, scalar_at, malformed_at}
 use Rattle.enc_drivers.specs.Encode.{BytesOf}
@@ -13,7 +14,8 @@ unfoldable pub user_defined_unit : Mode → List ℕ → UnitAt
 user_defined_unit mode [] = malformed_at mode 0
 user_defined_unit mode (b ∷ rest) = scalar_at mode (user_defined_scalar b) 1
 
--- the byte of a scalar: ASCII as it is, and 80 to FF of U+F780 to U+F7FF (Encoding Standard, section 14.5.2, x-user-defined encoder)
+-- the byte of a scalar: ASCII as it is, and 80 to FF of U+F780 to U+F7FF (Encoding Standard,
+-- section 14.5.2, x-user-defined encoder)
 unfoldable pub user_defined_bytes_of : BytesOf
 user_defined_bytes_of scalar =
     if nat_lt scalar 0x80 then Some (scalar ∷ [])

@@ -1,5 +1,7 @@
--- The units of windows-1252 (Encoding Standard, section 9.1, single-byte decoder, and index windows-1252).
-use Rattle.std.specs.Prelude.{ℕ, ◌-◌, ◌&&◌, nat_le, if◌then◌else◌, List, [], ◌∷◌, slice_index, ◌+◌, Some}
+-- The units of windows-1252 (Encoding Standard, section 9.1, single-byte decoder, and index
+-- windows-1252).
+use Rattle.std.specs.Prelude.{ℕ, ◌-◌, ◌&&◌, nat_le, if◌then◌else◌, List, [], ◌∷◌, slice_index, ◌+◌}
+use Rattle.std.specs.Prelude.{Some}
 use Rattle.enc_drivers.specs.declared.unit.Mode.{Mode}
 use Rattle.enc_drivers.specs.Units.{UnitAt, scalar_at, malformed_at}
 use Rattle.enc_drivers.specs.Lookup.{Places}
@@ -16,7 +18,8 @@ windows_1252_table =
 
 -- the scalar of a byte in windows-1252: from the table at 80 to 9F, else the byte's number
 unfoldable pub windows_1252_scalar : ℕ → ℕ
-windows_1252_scalar b = if nat_le 0x80 b && nat_le b 0x9F then slice_index windows_1252_table (b - 0x80) else b
+windows_1252_scalar b = if nat_le 0x80 b && nat_le b 0x9F
+    then slice_index windows_1252_table (b - 0x80) else b
 
 -- the scalar of the first byte
 unfoldable pub windows_1252_unit : Mode → List ℕ → UnitAt

@@ -5,8 +5,10 @@ use Rattle.std.proofs.lemmas.Bool.Decides.{nat_tests}
 use Rattle.enc_drivers.specs.declared.unit.Mode.{Mode}
 use Rattle.enc_drivers.specs.Units.{scalar_at, IsCode, HasScalars}
 use Rattle.enc_drivers.specs.Lookup.{Places, FindsScalars}
-use Rattle.enc_drivers.specs.Codes.Big5.{is_big5_trail, big5_place, big5_at, big5_both, big5_pairs, big5_unit}
-use Rattle.enc_drivers.specs.Lemmas.PairsLaw.{pairs_law, pairs_ascii, found_scalars, ascii_item, ascii_short}
+use Rattle.enc_drivers.specs.Codes.Big5.{is_big5_trail, big5_place, big5_at, big5_both, big5_pairs}
+use Rattle.enc_drivers.specs.Codes.Big5.{big5_unit}
+use Rattle.enc_drivers.specs.Lemmas.PairsLaw.{pairs_law, pairs_ascii, found_scalars, ascii_item}
+use Rattle.enc_drivers.specs.Lemmas.PairsLaw.{ascii_short}
 
 at_scalars : (places : Places) → FindsScalars places → (place : ℕ) → HasScalars (big5_at places place)
 unfolding big5_at

@@ -1,6 +1,8 @@
 -- The laws of the encoders: a scalar that has bytes has one to as many as the encoder says.
-use Rattle.std.proofs.Common.{◌≡◌, ℕ, suc, ◌+◌, ◌-◌, ◌≤◌, Bool, true, false, List, [], ◌∷◌, length, refl, arith}
-use Rattle.std.specs.Prelude.{nat_le, nat_lt, ◌&&◌, ◌==◌, Option, Some, None, option_map, encode_utf8}
+use Rattle.std.proofs.Common.{◌≡◌, ℕ, suc, ◌+◌, ◌-◌, ◌≤◌, Bool, true, false, List, [], ◌∷◌, length}
+use Rattle.std.proofs.Common.{refl, arith}
+use Rattle.std.specs.Prelude.{nat_le, nat_lt, ◌&&◌, ◌==◌, Option, Some, None, option_map}
+use Rattle.std.specs.Prelude.{encode_utf8}
 use Rattle.std.specs.Option.{ForSome}
 use Rattle.std.proofs.lemmas.Bool.Decides.{nat_tests}
 use Rattle.std.proofs.lemmas.Str.{length-encode}
@@ -13,7 +15,8 @@ use Rattle.enc_drivers.specs.Codes.Windows1252.{windows_1252_places, windows_125
 use Rattle.enc_drivers.specs.Codes.UserDefined.{user_defined_bytes_of}
 use Rattle.enc_drivers.specs.Codes.EucKr.{euc_kr_bytes, euc_kr_bytes_of}
 use Rattle.enc_drivers.specs.Codes.EucJp.{euc_jp_bytes, minus_as_hyphen, euc_jp_bytes_of}
-use Rattle.enc_drivers.specs.Codes.Gb18030.{gb18030_bytes, ranges_bytes, gb18030_place_bytes, gb18030_bytes_of}
+use Rattle.enc_drivers.specs.Codes.Gb18030.{gb18030_bytes, ranges_bytes, gb18030_place_bytes}
+use Rattle.enc_drivers.specs.Codes.Gb18030.{gb18030_bytes_of}
 
 -- an encoder's answer is none, or has one to max bytes
 abbrev IsFew : ℕ → Option (List ℕ) → Type 0

@@ -1,5 +1,6 @@
 -- The laws of EUC-JP.
-use Rattle.std.proofs.Common.{◌≡◌, ℕ, ◌+◌, ◌-◌, ◌*◌, ◌<◌, ◌≤◌, Bool, true, false, cond, lt-ltb, List, [], ◌∷◌, length, get_or, take, refl, ap, arith}
+use Rattle.std.proofs.Common.{◌≡◌, ℕ, ◌+◌, ◌-◌, ◌*◌, ◌<◌, ◌≤◌, Bool, true, false, cond, lt-ltb}
+use Rattle.std.proofs.Common.{List, [], ◌∷◌, length, get_or, take, refl, ap, arith}
 use Rattle.std.specs.Prelude.{nat_lt, nat_le, ◌==◌, ◌&&◌, Some, None}
 use Rattle.std.specs.Option.{ForSome}
 use Rattle.std.specs.Char.{IsScalar}
@@ -7,7 +8,8 @@ use Rattle.std.proofs.lemmas.Bool.{and_parts, leb-true}
 use Rattle.enc_drivers.specs.declared.unit.Mode.{Mode}
 use Rattle.enc_drivers.specs.Units.{scalar_at, IsCode, IsUnitOf, AreBytes}
 use Rattle.enc_drivers.specs.Lookup.{Places, FindsScalars}
-use Rattle.enc_drivers.specs.Codes.EucJp.{in_row, is_euc_jp_lead, row_scalar, euc_jp_scalar, jis0212_unit, euc_jp_sequence, euc_jp_unit}
+use Rattle.enc_drivers.specs.Codes.EucJp.{in_row, is_euc_jp_lead, row_scalar, euc_jp_scalar}
+use Rattle.enc_drivers.specs.Codes.EucJp.{jis0212_unit, euc_jp_sequence, euc_jp_unit}
 use Rattle.enc_drivers.specs.Lemmas.Scalars.{scalar_high}
 use Rattle.enc_drivers.specs.Lemmas.SequenceLaw.{malformed_is, ascii_is, sequence_is}
 

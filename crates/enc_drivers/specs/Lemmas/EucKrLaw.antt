@@ -4,8 +4,10 @@ use Rattle.std.proofs.lemmas.Bool.Decides.{nat_tests}
 use Rattle.enc_drivers.specs.declared.unit.Mode.{Mode}
 use Rattle.enc_drivers.specs.Units.{scalar_at, IsCode, HasScalars}
 use Rattle.enc_drivers.specs.Lookup.{Places, FindsScalars}
-use Rattle.enc_drivers.specs.Codes.EucKr.{is_euc_kr_trail, euc_kr_place, euc_kr_both, euc_kr_pairs, euc_kr_unit}
-use Rattle.enc_drivers.specs.Lemmas.PairsLaw.{pairs_law, pairs_ascii, found_scalars, ascii_item, ascii_short}
+use Rattle.enc_drivers.specs.Codes.EucKr.{is_euc_kr_trail, euc_kr_place, euc_kr_both, euc_kr_pairs}
+use Rattle.enc_drivers.specs.Codes.EucKr.{euc_kr_unit}
+use Rattle.enc_drivers.specs.Lemmas.PairsLaw.{pairs_law, pairs_ascii, found_scalars, ascii_item}
+use Rattle.enc_drivers.specs.Lemmas.PairsLaw.{ascii_short}
 
 both_scalars : (places : Places) → FindsScalars places → (lead second : ℕ) → HasScalars (euc_kr_both places lead second)
 both_scalars places finds lead second = by_test (is_euc_kr_trail second) refl

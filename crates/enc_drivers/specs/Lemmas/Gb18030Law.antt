@@ -1,14 +1,18 @@
 -- The laws of gb18030.
-use Rattle.std.proofs.Common.{◌≡◌, ℕ, ◌+◌, ◌-◌, ◌*◌, ◌<◌, ◌≤◌, Bool, true, false, cond, lt-ltb, List, [], ◌∷◌, length, get_or, take, refl, ap, arith}
+use Rattle.std.proofs.Common.{◌≡◌, ℕ, ◌+◌, ◌-◌, ◌*◌, ◌<◌, ◌≤◌, Bool, true, false, cond, lt-ltb}
+use Rattle.std.proofs.Common.{List, [], ◌∷◌, length, get_or, take, refl, ap, arith}
 use Rattle.std.specs.Prelude.{nat_lt, ◌==◌, None}
 use Rattle.std.specs.Option.{ForSome}
 use Rattle.std.specs.Char.{IsScalar}
 use Rattle.enc_drivers.specs.declared.unit.Mode.{Mode}
 use Rattle.enc_drivers.specs.Units.{scalar_at, IsCode, IsUnitOf, AreBytes}
 use Rattle.enc_drivers.specs.Lookup.{Places, FindsScalars}
-use Rattle.enc_drivers.specs.Codes.Gb18030.{is_gb18030_lead, is_gb18030_digit, is_gb18030_trail, gb18030_scalar, ranges_place, gb18030_fourth, gb18030_third, gb18030_sequence, gb18030_unit}
+use Rattle.enc_drivers.specs.Codes.Gb18030.{is_gb18030_lead, is_gb18030_digit, is_gb18030_trail}
+use Rattle.enc_drivers.specs.Codes.Gb18030.{gb18030_scalar, ranges_place, gb18030_fourth}
+use Rattle.enc_drivers.specs.Codes.Gb18030.{gb18030_third, gb18030_sequence, gb18030_unit}
 use Rattle.enc_drivers.specs.Lemmas.Scalars.{scalar_low}
-use Rattle.enc_drivers.specs.Lemmas.SequenceLaw.{malformed_is, one_is, ascii_is, sequence_is, whole_is}
+use Rattle.enc_drivers.specs.Lemmas.SequenceLaw.{malformed_is, one_is, ascii_is, sequence_is}
+use Rattle.enc_drivers.specs.Lemmas.SequenceLaw.{whole_is}
 
 -- a byte below 80 is a unit of itself
 pub gb18030_ascii : (index ranges : Places) (mode : Mode) (b : ℕ) (rest : List ℕ) → b < 0x80 → gb18030_unit index ranges mode (b ∷ rest) ≡ scalar_at mode b 1

@@ -1,5 +1,6 @@
 -- The laws of ISO-2022-JP.
-use Rattle.std.proofs.Common.{◌≡◌, ℕ, ◌+◌, ◌-◌, ◌*◌, ◌<◌, ◌≤◌, Bool, true, false, cond, ltb-true, leb-true, List, [], ◌∷◌, length, get_or, take, refl, ap, arith}
+use Rattle.std.proofs.Common.{◌≡◌, ℕ, ◌+◌, ◌-◌, ◌*◌, ◌<◌, ◌≤◌, Bool, true, false, cond, ltb-true}
+use Rattle.std.proofs.Common.{leb-true, List, [], ◌∷◌, length, get_or, take, refl, ap, arith}
 use Rattle.std.specs.Prelude.{nat_lt, nat_le, ◌==◌, ◌&&◌, ◌||◌, Option, Some, None}
 use Rattle.std.specs.Option.{ForSome}
 use Rattle.std.specs.Char.{IsScalar}
@@ -11,7 +12,10 @@ use Rattle.enc_drivers.specs.declared.unit.Mode.TheVariants.{Plain, Within, Afte
 use Rattle.enc_drivers.specs.Units.{IsCode, IsUnitOf, AreBytes}
 use Rattle.enc_drivers.specs.Lookup.{Places, FindsScalars}
 use Rattle.enc_drivers.specs.Codes.Sequence.{whole_unit}
-use Rattle.enc_drivers.specs.Codes.Iso2022Jp.{set_of, escape_set, escaped, escape_unit, ascii_scalar, roman_scalar, katakana_scalar, single_scalar, in_jis_row, is_jis_lead, jis_pair, set_unit, iso_2022_jp_unit}
+use Rattle.enc_drivers.specs.Codes.Iso2022Jp.{set_of, escape_set, escaped, escape_unit}
+use Rattle.enc_drivers.specs.Codes.Iso2022Jp.{ascii_scalar, roman_scalar, katakana_scalar}
+use Rattle.enc_drivers.specs.Codes.Iso2022Jp.{single_scalar, in_jis_row, is_jis_lead, jis_pair}
+use Rattle.enc_drivers.specs.Codes.Iso2022Jp.{set_unit, iso_2022_jp_unit}
 use Rattle.enc_drivers.specs.Lemmas.Scalars.{scalar_low, scalar_high}
 use Rattle.enc_drivers.specs.Lemmas.SequenceLaw.{malformed_is, one_is, whole_is}
 

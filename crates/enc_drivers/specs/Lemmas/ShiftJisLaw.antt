@@ -1,5 +1,6 @@
 -- The laws of Shift_JIS.
-use Rattle.std.proofs.Common.{◌≡◌, ℕ, ◌+◌, ◌-◌, ◌<◌, ◌≤◌, Bool, true, false, leb-true, List, ◌∷◌, length, refl, arith}
+use Rattle.std.proofs.Common.{◌≡◌, ℕ, ◌+◌, ◌-◌, ◌<◌, ◌≤◌, Bool, true, false, leb-true, List, ◌∷◌}
+use Rattle.std.proofs.Common.{length, refl, arith}
 use Rattle.std.specs.Prelude.{nat_le}
 use Rattle.std.proofs.lemmas.Bool.{and_parts, le-leb}
 use Rattle.std.proofs.lemmas.Bool.Decides.{nat_tests}
@@ -8,7 +9,9 @@ use Rattle.enc_drivers.specs.declared.unit.Mode.{Mode}
 use Rattle.enc_drivers.specs.Units.{scalar_at, IsCode, HasScalars, item_text}
 use Rattle.enc_drivers.specs.Lookup.{Places, FindsScalars}
 use Rattle.enc_drivers.specs.Codes.Pairs.{is_between}
-use Rattle.enc_drivers.specs.Codes.ShiftJis.{is_shift_jis_trail, shift_jis_place, shift_jis_at, shift_jis_alone, shift_jis_both, shift_jis_pairs, shift_jis_unit}
+use Rattle.enc_drivers.specs.Codes.ShiftJis.{is_shift_jis_trail, shift_jis_place, shift_jis_at}
+use Rattle.enc_drivers.specs.Codes.ShiftJis.{shift_jis_alone, shift_jis_both, shift_jis_pairs}
+use Rattle.enc_drivers.specs.Codes.ShiftJis.{shift_jis_unit}
 use Rattle.enc_drivers.specs.Lemmas.Scalars.{scalar_low, scalar_high, encode_three}
 use Rattle.enc_drivers.specs.Lemmas.PairsLaw.{pairs_law, pairs_ascii, found_scalars}
 

@@ -1,5 +1,6 @@
 -- The laws of the encodings of one byte a scalar.
-use Rattle.std.proofs.Common.{◌≡◌, ℕ, zero, suc, ◌+◌, ◌-◌, ◌<◌, ◌≤◌, Bool, true, false, List, [], ◌∷◌, length, get_or, take, refl, ap, arith, lit<, ltb-true}
+use Rattle.std.proofs.Common.{◌≡◌, ℕ, zero, suc, ◌+◌, ◌-◌, ◌<◌, ◌≤◌, Bool, true, false, List, []}
+use Rattle.std.proofs.Common.{◌∷◌, length, get_or, take, refl, ap, arith, lit<, ltb-true}
 use Rattle.std.specs.Prelude.{nat_le, nat_lt, ◌&&◌, Option, Some, None}
 use Rattle.std.specs.List.{list_all}
 use Rattle.std.specs.Char.{IsScalar}
@@ -8,7 +9,8 @@ use Rattle.std.proofs.lemmas.List.Elements.{All-head}
 use Rattle.enc_drivers.specs.declared.unit.Mode.{Mode}
 use Rattle.enc_drivers.specs.Units.{scalar_at, IsCode, IsUnitOf, AreBytes, HasScalars, item_text}
 use Rattle.enc_drivers.specs.Lookup.{Places, FindsScalars, HasNoAstral}
-use Rattle.enc_drivers.specs.Codes.Windows1252.{windows_1252_table, windows_1252_scalar, windows_1252_unit}
+use Rattle.enc_drivers.specs.Codes.Windows1252.{windows_1252_table, windows_1252_scalar}
+use Rattle.enc_drivers.specs.Codes.Windows1252.{windows_1252_unit}
 use Rattle.enc_drivers.specs.Codes.UserDefined.{user_defined_scalar, user_defined_unit}
 use Rattle.enc_drivers.specs.Codes.SingleByte.{single_byte_item, single_byte_unit}
 use Rattle.enc_drivers.specs.Lemmas.Scalars.{scalar_low, scalar_high, encode_three}

@@ -1,12 +1,15 @@
 -- The laws of UTF-8.
-use Rattle.std.proofs.Common.{◌≡◌, ℕ, suc, ◌+◌, ◌<◌, ◌≤◌, Bool, true, false, leb-true, ltb-true, eqb, List, [], ◌∷◌, length, get_or, take, drop, refl, ap, ◌∙◌, arith, ⊎_elim, length-append}
+use Rattle.std.proofs.Common.{◌≡◌, ℕ, suc, ◌+◌, ◌<◌, ◌≤◌, Bool, true, false, leb-true, ltb-true}
+use Rattle.std.proofs.Common.{eqb, List, [], ◌∷◌, length, get_or, take, drop, refl, ap, ◌∙◌, arith}
+use Rattle.std.proofs.Common.{⊎_elim, length-append}
 use Rattle.std.specs.Prelude.{nat_le, nat_lt, ◌&&◌, ◌||◌}
 use Rattle.std.specs.Char.{encode_utf8}
 use Rattle.std.proofs.lemmas.Bool.{and_parts, or_cases, eqb-false, lt-ltb}
 use Rattle.enc_handles.specs.Utf8.{byte_in, is_tail_at, sequence_len, sequence_scalar}
 use Rattle.enc_drivers.specs.declared.unit.Mode.{Mode}
 use Rattle.enc_drivers.specs.Units.{scalar_at, malformed_at, IsCode, IsUnitOf, AreBytes}
-use Rattle.enc_drivers.specs.Codes.Utf8.{begins_pair, two_of_three, two_of_four, malformed_len, utf8_unit}
+use Rattle.enc_drivers.specs.Codes.Utf8.{begins_pair, two_of_three, two_of_four, malformed_len}
+use Rattle.enc_drivers.specs.Codes.Utf8.{utf8_unit}
 use Rattle.enc_handles.proofs.Sequences.{sequence-Decodes}
 use Rattle.enc_drivers.specs.Lemmas.Scalars.{encode_four}
 

@@ -2,7 +2,8 @@
 
 ghost use Rattle.std.specs.Prelude.{◌≡◌, ◌<◌, ◌≤◌, ◌||◌, true, ℕ, List, [], ◌∷◌, ◌++◌};
 ghost use Rattle.enc_drivers.specs.Bulk.{IsItemEntry};
-ghost use Rattle.enc_drivers.specs.Codes.Big5.{is_big5_lead, is_big5_trail, big5_place, big5_at, big5_pairs, big5_unit, big5_bytes};
+ghost use Rattle.enc_drivers.specs.Codes.Big5.{is_big5_lead, is_big5_trail, big5_place, big5_at};
+ghost use Rattle.enc_drivers.specs.Codes.Big5.{big5_pairs, big5_unit, big5_bytes};
 ghost use Rattle.enc_drivers.specs.Lookup.{Places, FindsScalars};
 ghost use Rattle.enc_drivers.specs.Units.{IsCode, scalar_at};
 ghost use Rattle.enc_drivers.specs.declared.unit.Item.TheVariants.{Malformed};

@@ -1,7 +1,9 @@
 //! EUC-JP (Encoding Standard, section 12.1: 12.1.1, EUC-JP decoder, and 12.1.2, EUC-JP encoder).
 ghost use Rattle.std.specs.Prelude.{◌≡◌, ◌<◌, ◌≤◌, ◌&&◌, ◌==◌, true, ℕ, List, ◌∷◌, ◌++◌};
 ghost use Rattle.enc_drivers.specs.Lookup.{IsEntryOf, Places, FindsScalars, HasNoAstral};
-ghost use Rattle.enc_drivers.specs.Codes.EucJp.{in_row, is_euc_jp_lead, row_scalar, euc_jp_scalar, euc_jp_unit, euc_jp_bytes_of, euc_jp_bytes, minus_as_hyphen};
+ghost use Rattle.enc_drivers.specs.Codes.EucJp.{in_row, is_euc_jp_lead, row_scalar, euc_jp_scalar};
+ghost use Rattle.enc_drivers.specs.Codes.EucJp.{euc_jp_unit, euc_jp_bytes_of, euc_jp_bytes};
+ghost use Rattle.enc_drivers.specs.Codes.EucJp.{minus_as_hyphen};
 ghost use Rattle.enc_drivers.specs.Units.{IsCode, scalar_at};
 ghost use Rattle.enc_drivers.specs.Encode.{IsAsciiCompatible, MapsNoAstral, ReadsBack};
 ghost use Rattle.enc_drivers.specs.declared.unit.Mode.{Mode};

@@ -1,6 +1,8 @@
 //! EUC-KR (Encoding Standard, section 13.1: 13.1.1, EUC-KR decoder, and 13.1.2, EUC-KR encoder).
 ghost use Rattle.std.specs.Prelude.{◌≡◌, ◌<◌, ◌≤◌, true, ℕ, List, [], ◌∷◌, ◌++◌};
-ghost use Rattle.enc_drivers.specs.Codes.EucKr.{is_euc_kr_lead, is_euc_kr_trail, euc_kr_place, euc_kr_pairs, euc_kr_unit, euc_kr_bytes_of, euc_kr_bytes};
+ghost use Rattle.enc_drivers.specs.Codes.EucKr.{is_euc_kr_lead, is_euc_kr_trail, euc_kr_place};
+ghost use Rattle.enc_drivers.specs.Codes.EucKr.{euc_kr_pairs, euc_kr_unit, euc_kr_bytes_of};
+ghost use Rattle.enc_drivers.specs.Codes.EucKr.{euc_kr_bytes};
 ghost use Rattle.enc_drivers.specs.Codes.Pairs.{item_found};
 ghost use Rattle.enc_drivers.specs.Lookup.{Places, FindsScalars, HasNoAstral};
 ghost use Rattle.enc_drivers.specs.Units.{IsCode, scalar_at};

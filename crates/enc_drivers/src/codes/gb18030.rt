@@ -3,7 +3,10 @@
 ghost use Rattle.std.specs.Prelude.{◌≡◌, ◌<◌, ◌≤◌, true, length, slice_index, ℕ, Bool, List, ◌++◌};
 ghost use Rattle.enc_drivers.specs.Lookup.{IsEntryOf, Places, FindsScalars};
 ghost use Rattle.enc_drivers.specs.Steps.{Steps};
-ghost use Rattle.enc_drivers.specs.Codes.Gb18030.{is_gb18030_lead, is_gb18030_digit, is_gb18030_trail, gb18030_scalar, ranges_place, gb18030_unit, gb18030_bytes_of, gb18030_bytes, ranges_bytes};
+ghost use Rattle.enc_drivers.specs.Codes.Gb18030.{is_gb18030_lead, is_gb18030_digit};
+ghost use Rattle.enc_drivers.specs.Codes.Gb18030.{is_gb18030_trail, gb18030_scalar, ranges_place};
+ghost use Rattle.enc_drivers.specs.Codes.Gb18030.{gb18030_unit, gb18030_bytes_of, gb18030_bytes};
+ghost use Rattle.enc_drivers.specs.Codes.Gb18030.{ranges_bytes};
 ghost use Rattle.enc_drivers.specs.Units.{IsCode, scalar_at};
 ghost use Rattle.enc_drivers.specs.Encode.{IsAsciiCompatible, ReadsBack};
 ghost use Rattle.enc_drivers.specs.declared.unit.Mode.{Mode};

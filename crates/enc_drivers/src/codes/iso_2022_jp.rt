@@ -1,9 +1,13 @@
 //! ISO-2022-JP (Encoding Standard, section 12.2.1, ISO-2022-JP decoder).
 
-ghost use Rattle.std.specs.Prelude.{◌≡◌, ◌<◌, ◌≤◌, ◌==◌, ◌||◌, length, slice_index, true, ℕ, List, ◌++◌};
+ghost use Rattle.std.specs.Prelude.{◌≡◌, ◌<◌, ◌≤◌, ◌==◌, ◌||◌, length, slice_index, true, ℕ, List};
+ghost use Rattle.std.specs.Prelude.{◌++◌};
 ghost use Rattle.enc_drivers.specs.declared.code.Step.TheVariants as step;
 ghost use Rattle.enc_drivers.specs.Steps.{Steps};
-ghost use Rattle.enc_drivers.specs.Codes.Iso2022Jp.{set_of, escape_item, escape_set, escaped, ascii_scalar, roman_scalar, katakana_scalar, single_scalar, in_jis_row, is_jis_lead, iso_2022_jp_unit, iso_2022_jp_bytes};
+ghost use Rattle.enc_drivers.specs.Codes.Iso2022Jp.{set_of, escape_item, escape_set, escaped};
+ghost use Rattle.enc_drivers.specs.Codes.Iso2022Jp.{ascii_scalar, roman_scalar, katakana_scalar};
+ghost use Rattle.enc_drivers.specs.Codes.Iso2022Jp.{single_scalar, in_jis_row, is_jis_lead};
+ghost use Rattle.enc_drivers.specs.Codes.Iso2022Jp.{iso_2022_jp_unit, iso_2022_jp_bytes};
 ghost use Rattle.enc_drivers.specs.Codes.Iso2022Jp.{IsPlain};
 ghost use Rattle.enc_drivers.specs.Lookup.{Places, FindsScalars};
 ghost use Rattle.enc_drivers.specs.Units.{IsCode, scalar_at};

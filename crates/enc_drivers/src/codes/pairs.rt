@@ -1,8 +1,10 @@
 //! What the codes of a lead and a byte behind it share.
 
-ghost use Rattle.std.specs.Prelude.{◌≡◌, ◌<◌, ◌≤◌, ◌&&◌, Option, IfSome, length, nat_lt, if◌then◌else◌};
+ghost use Rattle.std.specs.Prelude.{◌≡◌, ◌<◌, ◌≤◌, ◌&&◌, Option, IfSome, length, nat_lt};
+ghost use Rattle.std.specs.Prelude.{if◌then◌else◌};
 ghost use Rattle.enc_drivers.specs.Bulk.{BeginsWithScalar, IsItemEntry, IsPairEntry};
-ghost use Rattle.enc_drivers.specs.Codes.Pairs.{ascii_alone, is_between, item_found, both_len, pairs_unit};
+ghost use Rattle.enc_drivers.specs.Codes.Pairs.{ascii_alone, is_between, item_found, both_len};
+ghost use Rattle.enc_drivers.specs.Codes.Pairs.{pairs_unit};
 ghost use Rattle.enc_drivers.specs.Steps.{Steps};
 
 use crate::code::Step;

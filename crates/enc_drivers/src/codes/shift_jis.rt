@@ -2,7 +2,10 @@
 
 ghost use Rattle.std.specs.Prelude.{◌≡◌, ◌<◌, ◌≤◌, ◌||◌, true, ℕ, List, [], ◌∷◌, ◌++◌};
 ghost use Rattle.enc_drivers.specs.Bulk.{IsItemEntry};
-ghost use Rattle.enc_drivers.specs.Codes.ShiftJis.{is_shift_jis_lead, is_shift_jis_trail, shift_jis_place, shift_jis_at, shift_jis_alone, shift_jis_pairs, shift_jis_unit, shift_jis_bytes};
+ghost use Rattle.enc_drivers.specs.Codes.ShiftJis.{is_shift_jis_lead, is_shift_jis_trail};
+ghost use Rattle.enc_drivers.specs.Codes.ShiftJis.{shift_jis_place, shift_jis_at, shift_jis_alone};
+ghost use Rattle.enc_drivers.specs.Codes.ShiftJis.{shift_jis_pairs, shift_jis_unit};
+ghost use Rattle.enc_drivers.specs.Codes.ShiftJis.{shift_jis_bytes};
 ghost use Rattle.enc_drivers.specs.Lookup.{Places, FindsScalars};
 ghost use Rattle.enc_drivers.specs.Units.{IsCode, scalar_at};
 ghost use Rattle.enc_drivers.specs.declared.unit.Item.TheVariants.{Malformed};

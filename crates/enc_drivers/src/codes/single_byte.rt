@@ -1,7 +1,8 @@
 //! Encodings of one byte a scalar with an index (Encoding Standard, sections 9.1, single-byte
 //! decoder, and 9.2, single-byte encoder).
 ghost use Rattle.std.specs.Prelude.{◌≡◌, ◌<◌, ◌≤◌, length, slice_index, take, IfSome, ℕ};
-ghost use Rattle.enc_drivers.specs.Codes.SingleByte.{single_byte_item, single_byte_unit, single_byte_bytes_of, TellsEach};
+ghost use Rattle.enc_drivers.specs.Codes.SingleByte.{single_byte_item, single_byte_unit};
+ghost use Rattle.enc_drivers.specs.Codes.SingleByte.{single_byte_bytes_of, TellsEach};
 ghost use Rattle.enc_drivers.specs.Lookup.{HasNoAstral, Places, FindsScalars};
 ghost use Rattle.enc_drivers.specs.Units.{IsCode};
 ghost use Rattle.enc_drivers.specs.Encode.{IsAsciiCompatible, MapsNoAstral, ReadsBack};

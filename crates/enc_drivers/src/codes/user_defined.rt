@@ -1,7 +1,8 @@
 //! x-user-defined (Encoding Standard, sections 14.5.1, x-user-defined decoder, and 14.5.2,
 //! x-user-defined encoder).
 ghost use Rattle.std.specs.Prelude.{◌≡◌, ℕ};
-ghost use Rattle.enc_drivers.specs.Codes.UserDefined.{user_defined_scalar, user_defined_unit, user_defined_bytes_of};
+ghost use Rattle.enc_drivers.specs.Codes.UserDefined.{user_defined_scalar, user_defined_unit};
+ghost use Rattle.enc_drivers.specs.Codes.UserDefined.{user_defined_bytes_of};
 ghost use Rattle.enc_drivers.specs.Units.{IsCode};
 ghost use Rattle.enc_drivers.specs.Encode.{IsAsciiCompatible, MapsNoAstral, ReadsBack};
 

@@ -1,9 +1,13 @@
 //! UTF-8 (Encoding Standard, sections 8.1.1, UTF-8 decoder, and 8.1.2, UTF-8 encoder; the Unicode
 //! Standard, table 3-7).
-ghost use Rattle.std.specs.Prelude.{◌≡◌, ◌<◌, ◌≤◌, length, slice_index, ◌&&◌, ◌||◌, ◌==◌, not, encode_utf8, ℕ, List, ◌++◌};
+ghost use Rattle.std.specs.Prelude.{◌≡◌, ◌<◌, ◌≤◌, length, slice_index, ◌&&◌, ◌||◌, ◌==◌, not};
+ghost use Rattle.std.specs.Prelude.{encode_utf8, ℕ, List, ◌++◌};
 ghost use Rattle.enc_drivers.specs.Steps.{Steps};
-ghost use Rattle.enc_handles.specs.Utf8.{byte_in, begins_two, begins_three, begins_four, sequence_len, sequence_scalar};
-ghost use Rattle.enc_drivers.specs.Codes.Utf8.{begins_pair, two_of_three, two_of_four, malformed_len, utf8_unit, utf8_bytes_of, IsLongestBegun};
+ghost use Rattle.enc_handles.specs.Utf8.{byte_in, begins_two, begins_three, begins_four};
+ghost use Rattle.enc_handles.specs.Utf8.{sequence_len, sequence_scalar};
+ghost use Rattle.enc_drivers.specs.Codes.Utf8.{begins_pair, two_of_three, two_of_four};
+ghost use Rattle.enc_drivers.specs.Codes.Utf8.{malformed_len, utf8_unit, utf8_bytes_of};
+ghost use Rattle.enc_drivers.specs.Codes.Utf8.{IsLongestBegun};
 ghost use Rattle.std.specs.Char.{IsScalar};
 ghost use Rattle.enc_drivers.specs.Units.{IsCode, scalar_at};
 ghost use Rattle.enc_drivers.specs.Encode.{IsAsciiCompatible, ReadsBack};

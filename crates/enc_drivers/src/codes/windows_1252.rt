@@ -1,7 +1,8 @@
 //! windows-1252 (Encoding Standard, sections 9.1, single-byte decoder, and 9.2, single-byte
 //! encoder, and index windows-1252).
 ghost use Rattle.std.specs.Prelude.{◌≡◌, ◌<◌, ◌≤◌, ◌%◌, slice_index, ℕ};
-ghost use Rattle.enc_drivers.specs.Codes.Windows1252.{windows_1252_scalar, windows_1252_unit, windows_1252_bytes_of, windows_1252_table};
+ghost use Rattle.enc_drivers.specs.Codes.Windows1252.{windows_1252_scalar, windows_1252_unit};
+ghost use Rattle.enc_drivers.specs.Codes.Windows1252.{windows_1252_bytes_of, windows_1252_table};
 ghost use Rattle.enc_drivers.specs.Units.{IsCode};
 ghost use Rattle.enc_drivers.specs.Encode.{IsAsciiCompatible, MapsNoAstral, ReadsBack};
 

@@ -1,6 +1,7 @@
 //! The general driver: one body decodes any code, in any pieces, to UTF-8 or UTF-16. The other
 //! drivers call it.
-ghost use Rattle.std.specs.Prelude.{◌≡◌, ℕ, ◌+◌, ◌-◌, ◌<◌, ◌≤◌, [], Bool, None, length, take, drop, true, false, encode_utf8};
+ghost use Rattle.std.specs.Prelude.{◌≡◌, ℕ, ◌+◌, ◌-◌, ◌<◌, ◌≤◌, [], Bool, None, length, take, drop};
+ghost use Rattle.std.specs.Prelude.{true, false, encode_utf8};
 ghost use Rattle.std.specs.Char.Escape.{encode_utf16};
 ghost use Rattle.enc_handles.specs.Ascii.{moved_len, moved_text};
 ghost use Rattle.enc_handles.specs.ByteSource.{reading};
@@ -44,7 +45,8 @@ impl<C: Code> GeneralDriver<C> {
     ghost use Rattle.enc_drivers.specs.Bulk.{KeepsAscii, ReadsAs, BeginsWithEntry};
     ghost use Rattle.enc_drivers.specs.Codes.Utf8.{utf8_unit};
     ghost use Rattle.enc_drivers.specs.Driver.{standing, unit_of};
-    ghost use Rattle.enc_drivers.specs.Turn.{StepsFront, Looks, Goes, Ends, EndsIf, EndsOrGoesOn, malformed_if_ends};
+    ghost use Rattle.enc_drivers.specs.Turn.{StepsFront, Looks, Goes, Ends, EndsIf, EndsOrGoesOn};
+    ghost use Rattle.enc_drivers.specs.Turn.{malformed_if_ends};
     ghost use Rattle.enc_drivers.specs.Decodes.{DecodesRaw};
     ghost use Rattle.enc_drivers.specs.Resume.{malformed_of};
 
@@ -206,8 +208,8 @@ impl<C: Code> GeneralDriver<C> {
     }
 
     // Where nothing is held and no run of ASCII begins: decodes a few bytes unit after unit. A call
-    // begins with them, since text that is often malformed has one or two scalars in a row, which is
-    // no start for a copy. Where a unit has too little room, what follows may still copy some.
+    // begins with them, since text that is often malformed has one or two scalars in a row, which
+    // is no start for a copy. Where a unit has too little room, what follows may still copy some.
     #[inline(always)]
     fn few_units<S: UnitSlice>(
         &mut self,
@@ -426,8 +428,8 @@ impl<C: Code> GeneralDriver<C> {
         (self.code.entry(first, bytes[1]), 2)
     }
 
-    // Moves one scalar at a time, as far as the code tells it and there is room, up to ASCII that is
-    // worth a copy of its own.
+    // Moves one scalar at a time, as far as the code tells it and there is room, up to ASCII that
+    // is worth a copy of its own.
     #[inline(always)]
     fn copy_scalars<S: UnitSlice>(&self, src: &[u8], dest: &mut DestinationOver<S>) -> usize
         ensures within { result ≤ length src.now }

@@ -291,6 +291,31 @@ fn tells_malformed_units(rt: HostRuntime) {
     assert!(rt; decoder.is_finished());
 }
 
+// What lies behind the count is free, and shows here that a decoder calls the driver that copies
+// runs of ASCII.
+#[test]
+fn copies_runs_of_ascii(rt: HostRuntime) -> Result<(), Fail> {
+    let mut tables = Tables::new();
+    tables
+        .add(rt.alloc(), IndexKind::EucKr, &[])
+        .map_err(|_| "no index")?;
+    assert!(rt; tables.has(Encoding::EucKr));
+    let mut decoder = Decoder::new_without_bom_handling(Encoding::EucKr, &tables);
+    assert!(rt; !decoder.is_finished());
+    assert!(rt; !decoder.owes());
+    let mut dst = [0; 16];
+    let src = b"abc\xffxxxxxxxxxxxx";
+    let answer = decoder.decode_to_utf8_without_replacement(src, &mut dst, true);
+    same(
+        &rt,
+        &answer,
+        &(DecoderResult::Malformed(1, 0), 4, 3),
+        &"malformed",
+    );
+    same(&rt, &dst[5], &b'x', &"behind");
+    Ok(())
+}
+
 // A call to UTF-8 with so much room: what it answers and writes, and what the decoder owes then.
 fn check_call(
     rt: &impl Abort,

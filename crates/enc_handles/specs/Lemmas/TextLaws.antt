@@ -1,13 +1,19 @@
 -- Where no scalar stands across a place, the scalars are those before it and those behind it.
-use Rattle.std.proofs.Common.{◌≡◌, ℕ, zero, suc, add-zero, ◌+◌, ◌-◌, ◌<◌, ◌≤◌, Bool, true, false, cond, not, List, [], ◌∷◌, ◌++◌, length, get_or, take, drop, refl, lit<, sym, ap, ◌∙◌, arith, length-take, length-append, length-drop}
+use Rattle.std.proofs.Common.{◌≡◌, ℕ, zero, suc, add-zero, ◌+◌, ◌-◌, ◌<◌, ◌≤◌, Bool, true, false}
+use Rattle.std.proofs.Common.{cond, not, List, [], ◌∷◌, ◌++◌, length, get_or, take, drop, refl}
+use Rattle.std.proofs.Common.{lit<, sym, ap, ◌∙◌, arith, length-take, length-append, length-drop}
 use Rattle.std.specs.Prelude.{◌&&◌}
 use Rattle.std.proofs.Math.Seq.{take-add, take-append_seam}
-use Rattle.std.proofs.lemmas.List.{take-append-drop, take-append-le, drop-take, drop-drop, get_or-drop, get_or-take, drop_more, append-nil}
+use Rattle.std.proofs.lemmas.List.{take-append-drop, take-append-le, drop-take, drop-drop}
+use Rattle.std.proofs.lemmas.List.{get_or-drop, get_or-take, drop_more, append-nil}
 use Rattle.std.proofs.Math.Seq.{take-length}
 use Rattle.std.proofs.lemmas.List.{length-take-le}
 use Rattle.std.proofs.lemmas.Bool.{and_parts}
 use Rattle.std.proofs.lemmas.Bool.Decides.{nat_tests}
-use Rattle.std.proofs.lemmas.Str.{chars-append, chars-IsAscii, chars_past_char, cons_from_encodes, chars-nil, IsUtf8-append, IsUtf8-from_ascii, IsUtf8-encode, IsUtf8-from_is_utf8, is_utf8-from_IsUtf8, IsUtf8-nil, IsUtf8-drop, IsCharBoundary-from_take}
+use Rattle.std.proofs.lemmas.Str.{chars-append, chars-IsAscii, chars_past_char, cons_from_encodes}
+use Rattle.std.proofs.lemmas.Str.{chars-nil, IsUtf8-append, IsUtf8-from_ascii, IsUtf8-encode}
+use Rattle.std.proofs.lemmas.Str.{IsUtf8-from_is_utf8, is_utf8-from_IsUtf8, IsUtf8-nil, IsUtf8-drop}
+use Rattle.std.proofs.lemmas.Str.{IsCharBoundary-from_take}
 use Rattle.std.specs.Char.{IsScalar, encode_utf8}
 use Rattle.std.specs.Str.{chars, IsUtf8, IsAscii, IsCharBoundary}
 use Rattle.enc_handles.specs.Ascii.{ascii_len}

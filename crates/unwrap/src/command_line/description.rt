@@ -1,7 +1,8 @@
 //! The command lines that `clap` reads: each command is its description.
 ghost use Rattle.std.specs.Prelude.{◌≡◌, IfOk};
 ghost use Rattle.clap.specs.Words.{app_of, with_rule};
-ghost use Rattle.unwrap.specs.Description.{flag, one_value, option, pieces, reader_options, values, with_rules};
+ghost use Rattle.unwrap.specs.Description.{flag, one_value, option, pieces, reader_options, values};
+ghost use Rattle.unwrap.specs.Description.{with_rules};
 
 use clap::{Arg, ArgAction, Command};
 use std::alloc::{AllocError, Global};

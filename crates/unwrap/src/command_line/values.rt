@@ -1,11 +1,13 @@
 //! The values that `clap` found, each read by its form.
-ghost use Rattle.std.specs.Prelude.{◌≡◌, ◌≤◌, Some, None, IfSome, codes, map, MatchResult, option_map, unwrap_or, []};
+ghost use Rattle.std.specs.Prelude.{◌≡◌, ◌≤◌, Some, None, IfSome, codes, map, MatchResult};
+ghost use Rattle.std.specs.Prelude.{option_map, unwrap_or, []};
 ghost use Rattle.std.specs.Char.{is_ascii_digit};
 ghost use Rattle.std.specs.List.{list_all};
 ghost use Rattle.clap.specs.Walk.{texts};
 ghost use Rattle.clap.specs.Words.{all_of, first_of, found_of, one_of, rows_of};
 ghost use Rattle.unwrap.specs.Numbers.{is_number_text, number_in, number_of, number_read};
-ghost use Rattle.unwrap.specs.Values.{encoding_read, file_of, file_view, files_read, is_true_text, kind_of, named_file};
+ghost use Rattle.unwrap.specs.Values.{encoding_read, file_of, file_view, files_read, is_true_text};
+ghost use Rattle.unwrap.specs.Values.{kind_of, named_file};
 ghost use Rattle.unwrap.specs.declared.command_line.matched.Refusal.TheVariants.{Usage};
 
 use crate::command_line::kinds::kind_of;

@@ -1,10 +1,12 @@
 //! The command `make`: a long header of words, made from a number, and the line that tells of it.
-ghost use Rattle.std.specs.Prelude.{◌≡◌, ◌+◌, ◌≤◌, ◌++◌, Some, IfOk, IfSome, OnOk, codes, option_and_then, string_bytes, sum};
+ghost use Rattle.std.specs.Prelude.{◌≡◌, ◌+◌, ◌≤◌, ◌++◌, Some, IfOk, IfSome, OnOk, codes};
+ghost use Rattle.std.specs.Prelude.{option_and_then, string_bytes, sum};
 ghost use Rattle.clap.specs.Words.{app_of, first_of, found_of, rows_of};
 ghost use Rattle.unwrap.specs.Asked.{make_asked, make_in, texts_of};
 ghost use Rattle.unwrap.specs.Commands.{Gives};
 ghost use Rattle.unwrap.specs.Description.{make_app};
-ghost use Rattle.unwrap.specs.Made.{Tells, TellsMade, WritesLine, line, made, part, separator, tell};
+ghost use Rattle.unwrap.specs.Made.{Tells, TellsMade, WritesLine, line, made, part, separator};
+ghost use Rattle.unwrap.specs.Made.{tell};
 ghost use Rattle.unwrap.specs.Numbers.{number_in};
 ghost use Rattle.unwrap.specs.Status.{Counts, HasText, IsBehindFiles};
 

@@ -1,7 +1,8 @@
 //! The commands `qp-encode` and `qp-decode`: quoted-printable text.
 ghost use Rattle.std.specs.Prelude.{◌≡◌, None, Ok, IfOk, IfErr};
 ghost use Rattle.clap.specs.Words.{app_of, found_of, rows_of};
-ghost use Rattle.unwrap.specs.Asked.{quoted_view, qp_decode_asked, qp_decode_in, qp_encode_asked, qp_encode_in, texts_of};
+ghost use Rattle.unwrap.specs.Asked.{quoted_view, qp_decode_asked, qp_decode_in, qp_encode_asked};
+ghost use Rattle.unwrap.specs.Asked.{qp_encode_in, texts_of};
 ghost use Rattle.unwrap.specs.Commands.{Gives};
 ghost use Rattle.unwrap.specs.Delivers.{Refuses};
 ghost use Rattle.unwrap.specs.Description.{qp_decode_app, qp_encode_app};

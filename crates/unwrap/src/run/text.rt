@@ -8,7 +8,8 @@ ghost use Rattle.unwrap.specs.Asked.{stream_view, text_asked, text_in, texts_of}
 ghost use Rattle.unwrap.specs.Commands.{Gives};
 ghost use Rattle.unwrap.specs.Description.{text_app};
 ghost use Rattle.unwrap.specs.Status.{Counts, HasTextSoFar, IsBeforeSource, IsBehindFiles};
-ghost use Rattle.unwrap.specs.Streams.{EndsCopy, EndsText, Streams, copy_status, reader_of, writing};
+ghost use Rattle.unwrap.specs.Streams.{EndsCopy, EndsText, Streams, copy_status, reader_of};
+ghost use Rattle.unwrap.specs.Streams.{writing};
 ghost use Rattle.unwrap.specs.TablesOf.{TakesFiles};
 
 use crate::command_line::description::{with_pieces, with_reader_options};

@@ -1,4 +1,3 @@
-use Rattle.std.proofs.Common.{ℕ}
 use Rattle.enc_strides.specs.Lanes.{is_in}
 use Rattle.enc_strides.proofs.MaskLemmas.{also}
 use Rattle.enc_strides.proofs.simd_funcs.is_u16x8_bidi.Goals as goal

@@ -1,4 +1,4 @@
-use Rattle.std.proofs.Common.{◌≡◌, ap, arith}
+use Rattle.std.proofs.Common.{ap, arith}
 use Rattle.std.specs.Prelude.{count_ones}
 use Rattle.qp.proofs.SpreadLemmas.{row_ok, few_ones, four_written, spread-ones}
 use Rattle.qp.proofs.spread.put_four.Goals as goal
