@@ -45,15 +45,37 @@ _unwrap_files() {
 # The options of the command that aren't given yet, since none may be given twice.
 _unwrap_left() {
     local option
-    for option in $(_unwrap_options "${COMP_WORDS[1]}"); do
-        [[ " ${COMP_WORDS[*]:2:COMP_CWORD-2} " == *" $option "* ]] || echo "$option"
+    for option in $(_unwrap_options "$1"); do
+        [[ " ${*:2} " == *" $option "* ]] || echo "$option"
+    done
+}
+
+# The words before the cursor's without redirections and their files, one a line.
+_unwrap_words() {
+    local word is_file=
+    for word in "${COMP_WORDS[@]:0:COMP_CWORD}"; do
+        if [[ $word == *[\<\>]* ]]; then
+            is_file=1
+        elif [[ -n $is_file ]]; then
+            is_file=
+        else
+            printf '%s\n' "$word"
+        fi
     done
 }
 
 _unwrap() {
-    local word=${COMP_WORDS[COMP_CWORD]} before=${COMP_WORDS[COMP_CWORD - 1]} name=
+    local word=${COMP_WORDS[COMP_CWORD]} name=
     COMPREPLY=()
-    if ((COMP_CWORD == 1)); then
+    # Behind < and > stands the name of a file, which bash completes itself.
+    if [[ ${COMP_WORDS[COMP_CWORD - 1]}$word == *[\<\>]* ]]; then
+        compopt -o default 2>/dev/null
+        return
+    fi
+    local words before command
+    mapfile -t words < <(_unwrap_words)
+    before=${words[-1]} command=${words[1]:-}
+    if ((${#words[@]} == 1)); then
         _unwrap_some "$_unwrap_commands" "$word"
         return
     fi
@@ -61,7 +83,7 @@ _unwrap() {
     if [[ $word == '=' ]]; then
         name=$before word=
     elif [[ $before == '=' ]]; then
-        name=${COMP_WORDS[COMP_CWORD - 2]}
+        name=${words[-2]}
     elif [[ " $_unwrap_valued " == *" $before "* ]]; then
         name=$before
     fi
@@ -70,8 +92,8 @@ _unwrap() {
     elif [[ -n $name ]]; then
         _unwrap_files "$word"
     elif [[ $word == -* ]]; then
-        _unwrap_some "$(_unwrap_left)" "$word"
-    elif [[ ${COMP_WORDS[1]} == unwrap || ${COMP_WORDS[1]} == text ]]; then
+        _unwrap_some "$(_unwrap_left "$command" "${words[@]:2}")" "$word"
+    elif [[ $command == unwrap || $command == text ]]; then
         mapfile -t COMPREPLY < <(compgen -S = -W "$_unwrap_kinds" -- "$word")
         compopt -o nospace 2>/dev/null
     fi
