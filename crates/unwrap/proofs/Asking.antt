@@ -1,5 +1,5 @@
 -- What a command line asks for, value by value.
-use Rattle.std.proofs.Common.{◌≡◌, ℕ, Bool, true, false, List, [], Option, Some, None, Result, Err, refl, sym, subst, ap, ◌∙◌}
+use Rattle.std.proofs.Common.{◌≡◌, ℕ, Bool, List, [], Option, Some, None, Result, Err, refl, sym, subst, ap, ◌∙◌}
 use Rattle.std.specs.Prelude.{codes, not, option_and_then, unwrap_or}
 use Rattle.std.specs.Option.{option_map}
 use Rattle.clap.specs.Words.{App, Row, Text, all_of, first_of}

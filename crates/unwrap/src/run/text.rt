@@ -111,7 +111,10 @@ fn write_text<S: Source, K: Sink>(
 }
 
 // `text`, by what was found.
-pub(crate) fn text_given<'a>(alloc: Global, matches: &ArgMatches<'a>) -> Result<Command<'a>, Refusal>
+pub(crate) fn text_given<'a>(
+    alloc: Global,
+    matches: &ArgMatches<'a>,
+) -> Result<Command<'a>, Refusal>
     ensures { Gives (text_in (rows_of (found_of matches.now))) result }
 {
     match StreamOptions::given(alloc, matches, MOST) {

@@ -108,7 +108,10 @@ fn strategy_given(matches: &ArgMatches<'_>) -> Option<RecoverStrategy>
 }
 
 // `unwrap`, by what was found.
-pub(crate) fn unwrap_given<'a>(alloc: Global, matches: &ArgMatches<'a>) -> Result<Command<'a>, Refusal>
+pub(crate) fn unwrap_given<'a>(
+    alloc: Global,
+    matches: &ArgMatches<'a>,
+) -> Result<Command<'a>, Refusal>
     ensures { Gives (unwrap_in (rows_of (found_of matches.now))) result }
 {
     let Some(strategy) = strategy_given(matches) else {
