@@ -1,5 +1,5 @@
 -- What a command line asks for, value by value.
-use Rattle.std.proofs.Common.{◌≡◌, ℕ, Bool, true, false, List, [], Option, Some, None, Result, Err, refl, sym, subst, ap, ◌∙◌}
+use Rattle.std.proofs.Common.{◌≡◌, ℕ, Bool, List, [], Option, Some, None, Result, Err, refl, sym, subst, ap, ◌∙◌}
 use Rattle.std.specs.Prelude.{codes, not, option_and_then, unwrap_or}
 use Rattle.std.specs.Option.{option_map}
 use Rattle.clap.specs.Words.{App, Row, Text, all_of, first_of}
@@ -8,8 +8,7 @@ use Rattle.unwrap.specs.declared.command_line.Command.{Command}
 use Rattle.unwrap.specs.declared.command_line.matched.Refusal.{Refusal}
 use Rattle.unwrap.specs.declared.command_line.matched.Refusal.TheVariants.{Usage}
 use Rattle.unwrap.specs.declared.command_line.options.ReaderOptions.{ReaderOptions}
-use Rattle.std.specs.Str.{bytes_eq}
-use Rattle.unwrap.specs.Asked.{Asked, Stream, asked_by, make_asked, qp_decode_asked, qp_encode_asked, text_asked, unwrap_asked, has_flag, quoted_in, quoted_with, reader_in, reader_with, stream_in, stream_with}
+use Rattle.unwrap.specs.Asked.{Asked, Stream, has_flag, quoted_in, quoted_with, reader_in, reader_with, stream_in, stream_with}
 use Rattle.unwrap.specs.Commands.{Gives}
 use Rattle.unwrap.specs.Matched.{matched_in}
 use Rattle.unwrap.specs.Numbers.{number_read}
@@ -115,28 +114,3 @@ asked_found f a b same words rows found r gives =
 pub asked_none : (f : List Row → Option Asked) (a b : App) → a ≡ b → (words : List Text) (e : Refusal) → (e ≡ Usage → matched_in a words ≡ None)
     → Gives (option_and_then f (matched_in b words)) (Err e)
 asked_none f a b same words e none usage = ap (option_and_then f) (ap (λ (x : App). matched_in x words) (sym same) ∙ none usage)
-
--- the command by its name
-pub by_unwrap : (word : Text) (words : List Text) → bytes_eq word (codes "unwrap") ≡ true → unwrap_asked words ≡ asked_by word words
-unfolding asked_by
-by_unwrap word words found = rw (found) refl
-
-pub by_text : (word : Text) (words : List Text) → bytes_eq word (codes "unwrap") ≡ false → bytes_eq word (codes "text") ≡ true → text_asked words ≡ asked_by word words
-unfolding asked_by
-by_text word words no0 found = rw (no0, found) refl
-
-pub by_qp_encode : (word : Text) (words : List Text) → bytes_eq word (codes "unwrap") ≡ false → bytes_eq word (codes "text") ≡ false → bytes_eq word (codes "qp-encode") ≡ true → qp_encode_asked words ≡ asked_by word words
-unfolding asked_by
-by_qp_encode word words no0 no1 found = rw (no0, no1, found) refl
-
-pub by_qp_decode : (word : Text) (words : List Text) → bytes_eq word (codes "unwrap") ≡ false → bytes_eq word (codes "text") ≡ false → bytes_eq word (codes "qp-encode") ≡ false → bytes_eq word (codes "qp-decode") ≡ true → qp_decode_asked words ≡ asked_by word words
-unfolding asked_by
-by_qp_decode word words no0 no1 no2 found = rw (no0, no1, no2, found) refl
-
-pub by_make : (word : Text) (words : List Text) → bytes_eq word (codes "unwrap") ≡ false → bytes_eq word (codes "text") ≡ false → bytes_eq word (codes "qp-encode") ≡ false → bytes_eq word (codes "qp-decode") ≡ false → bytes_eq word (codes "make") ≡ true → make_asked words ≡ asked_by word words
-unfolding asked_by
-by_make word words no0 no1 no2 no3 found = rw (no0, no1, no2, no3, found) refl
-
-pub by_none : (word : Text) (words : List Text) → bytes_eq word (codes "unwrap") ≡ false → bytes_eq word (codes "text") ≡ false → bytes_eq word (codes "qp-encode") ≡ false → bytes_eq word (codes "qp-decode") ≡ false → bytes_eq word (codes "make") ≡ false → asked_by word words ≡ None
-unfolding asked_by
-by_none word words no0 no1 no2 no3 no4 = rw (no0, no1, no2, no3, no4) refl

@@ -1,7 +1,8 @@
 -- From the clauses of `try_get_matches_from` to `matched_in`.
-use Rattle.std.proofs.Common.{ap, ap₂, sym, refl, inl, inr, true, false, Bool, List, [], ◌∷◌, Option, Some, None, Ok, Err, ◌≡◌, ◌≢◌, ◌∙◌}
+use Rattle.std.proofs.Common.{ap, ap₂, sym, subst, refl, inl, inr, true, false, Bool, List, [], ◌∷◌, Option, Some, None, Ok, Err, ◌≡◌, ◌≢◌, ◌∙◌}
 use Rattle.std.proofs.lemmas.Slice.Eq.{bytes_eq-Decides}
-use Rattle.std.specs.Prelude.{Result, IsErrAnd, MatchResult, codes, unwrap_or}
+use Rattle.std.specs.Prelude.{Result, IfSome, IsErrAnd, MatchResult, codes, option_map, unwrap_or, if◌then◌else◌}
+use Rattle.std.specs.List.{list_all}
 use Rattle.std.specs.Str.{bytes_eq}
 use Rattle.std.specs.Str.Parse.{ParsesBool}
 use Rattle.clap.specs.Matches.{ReadsOne}
@@ -14,30 +15,31 @@ use Rattle.clap.proofs.OnLiterals.{clap_on_literals}
 use Rattle.clap.proofs.WalkLemmas.{both}
 use Rattle.unwrap.specs.declared.command_line.matched.Refusal.{Refusal}
 use Rattle.unwrap.specs.declared.command_line.matched.Refusal.TheVariants.{Memory, Usage}
-use Rattle.unwrap.specs.Description.{unwrap_app, text_app, qp_encode_app, qp_decode_app, make_app}
 use Rattle.unwrap.specs.Matched.{matched_at, matched_in, refusal_of}
+use Rattle.unwrap.specs.Table.{Listed, Row, commands, described, row_in, row_of, row_view}
 use Rattle.unwrap.specs.Values.{is_true_text}
 
--- the descriptions are simple, and no argument has a rule on another: clap's clauses are exact
-pub unwrap_is_simple : is_simple_and_free unwrap_app ≡ true
-unfolding unwrap_app clap_on_literals
-unwrap_is_simple = refl
+-- the commands are simple, and no argument has a rule on another: clap's clauses are exact
+all_simple : list_all (λ (row : Row). is_simple_and_free (described row)) commands ≡ true
+unfolding commands described clap_on_literals
+all_simple = refl
 
-pub text_is_simple : is_simple_and_free text_app ≡ true
-unfolding text_app clap_on_literals
-text_is_simple = refl
+first_or : (r row : Row) (rest : Option Row) (here : Bool) → (if here then Some r else rest) ≡ Some row → is_simple_and_free (described r) ≡ true
+    → (rest ≡ Some row → is_simple_and_free (described row) ≡ true) → is_simple_and_free (described row) ≡ true
+first_or r row rest true found simple more = subst (λ (x : Row). is_simple_and_free (described x) ≡ true) (ap (λ o. unwrap_or o r) found) simple
+first_or r row rest false found simple more = more found
 
-pub qp_encode_is_simple : is_simple_and_free qp_encode_app ≡ true
-unfolding qp_encode_app clap_on_literals
-qp_encode_is_simple = refl
+simple_in : (rows : List Row) (word : Text) (row : Row) → list_all (λ (r : Row). is_simple_and_free (described r)) rows ≡ true → row_in rows word ≡ Some row
+    → is_simple_and_free (described row) ≡ true
+simple_in [] word row all found = cc
+simple_in (r ∷ rows) word row all found =
+    first_or r row (row_in rows word) (bytes_eq r.word word) found (both _ _ all).0 (simple_in rows word row (both _ _ all).1)
 
-pub qp_decode_is_simple : is_simple_and_free qp_decode_app ≡ true
-unfolding qp_decode_app clap_on_literals
-qp_decode_is_simple = refl
-
-pub make_is_simple : is_simple_and_free make_app ≡ true
-unfolding make_app clap_on_literals
-make_is_simple = refl
+pub row_is_simple : (word : Text) (row : Option Listed) → option_map row_view row ≡ row_of word
+    → IfSome row (λ r. is_simple_and_free (described (row_view r)) ≡ true)
+unfolding row_of
+row_is_simple word None found = tt
+row_is_simple word (Some row) found = simple_in commands word (row_view row) all_simple (sym found)
 
 -- an `Ok` of a command whose description is b has the matches of b
 pub matched_ok : (a b : App) → a ≡ b → is_simple_and_free b ≡ true → (words : List Text) (m : ArgMatches)

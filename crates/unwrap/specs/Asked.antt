@@ -1,19 +1,21 @@
 -- What a command line asks for.
-use Rattle.std.specs.Prelude.{ℕ, Bool, not, List, [], ◌∷◌, Option, None, codes, map, string_bytes}
-use Rattle.std.specs.Prelude.{String, if◌then◌else◌, option_and_then, unwrap_or}
+use Rattle.std.specs.Prelude.{ℕ, Bool, not, List, [], Option, codes, map, string_bytes, String}
+use Rattle.std.specs.Prelude.{option_and_then, unwrap_or}
 use Rattle.std.specs.Option.{option_map}
 use Rattle.std.specs.declared.alloc.Global.{Global}
-use Rattle.std.specs.Str.{bytes_eq}
 use Rattle.clap.specs.Words.{Row, Text, all_of, first_of, one_of}
 use Rattle.enc_front.specs.declared.encoding.Encoding.{Encoding}
 use Rattle.enc_front.specs.declared.tables.IndexKind.{IndexKind}
 use Rattle.words.specs.declared.strategy.RecoverStrategy.{RecoverStrategy}
+use Rattle.unwrap.specs.declared.command_line.table.CommandName.{CommandName}
+use Rattle.unwrap.specs.declared.command_line.table.CommandName.TheVariants as name
 use Rattle.unwrap.specs.declared.command_line.options.QuotedOptions.{QuotedOptions}
 use Rattle.unwrap.specs.declared.command_line.options.ReaderOptions.{ReaderOptions}
 use Rattle.unwrap.specs.declared.command_line.options.StreamOptions.{StreamOptions}
-use Rattle.unwrap.specs.Description.{unwrap_app, text_app, qp_encode_app, qp_decode_app, make_app}
 use Rattle.unwrap.specs.Matched.{matched_in}
 use Rattle.unwrap.specs.Numbers.{number_in, number_read}
+use Rattle.unwrap.specs.Table as table
+use Rattle.unwrap.specs.Table.{described, row_named}
 use Rattle.unwrap.specs.Values.{encoding_read, file_view, files_read, is_true_text, strategy_read}
 
 -- words as texts
@@ -110,41 +112,27 @@ unwrap_in rows =
 abbrev pub make_in : List Row → Option Asked
 make_in rows = option_map Make (option_and_then (number_in 1 20000) (first_of (codes "parts") rows))
 
--- what the words of each command ask for, of which the first is passed over
-abbrev pub unwrap_asked : List Text → Option Asked
-unwrap_asked words = option_and_then unwrap_in (matched_in unwrap_app words)
-
 abbrev pub text_in : List Row → Option Asked
 text_in rows = option_map StreamText (stream_in 999999999 rows)
-
-abbrev pub text_asked : List Text → Option Asked
-text_asked words = option_and_then text_in (matched_in text_app words)
 
 abbrev pub qp_encode_in : List Row → Option Asked
 qp_encode_in rows = option_map QpEncode (quoted_in (codes "binary") rows)
 
-abbrev pub qp_encode_asked : List Text → Option Asked
-qp_encode_asked words = option_and_then qp_encode_in (matched_in qp_encode_app words)
-
 abbrev pub qp_decode_in : List Row → Option Asked
 qp_decode_in rows = option_map QpDecode (quoted_in (codes "strict") rows)
 
-abbrev pub qp_decode_asked : List Text → Option Asked
-qp_decode_asked words = option_and_then qp_decode_in (matched_in qp_decode_app words)
+-- what each command is asked for by what `clap` found
+abbrev pub found_in : CommandName → List Row → Option Asked
+found_in name.Unwrap rows = unwrap_in rows
+found_in name.Text rows = text_in rows
+found_in name.QpEncode rows = qp_encode_in rows
+found_in name.QpDecode rows = qp_decode_in rows
+found_in name.Make rows = make_in rows
 
-abbrev pub make_asked : List Text → Option Asked
-make_asked words = option_and_then make_in (matched_in make_app words)
+-- what the words ask the command of a row for; the first of the words is passed over
+abbrev pub asked_of : table.Row → List Text → Option Asked
+asked_of row words = option_and_then (found_in row.name) (matched_in (described row) words)
 
--- what the words ask for, by the first of them
-unfoldable pub asked_by : Text → List Text → Option Asked
-asked_by word words =
-    if bytes_eq word (codes "unwrap") then unwrap_asked words
-    else (if bytes_eq word (codes "text") then text_asked words
-    else (if bytes_eq word (codes "qp-encode") then qp_encode_asked words
-    else (if bytes_eq word (codes "qp-decode") then qp_decode_asked words
-    else (if bytes_eq word (codes "make") then make_asked words else None))))
-
--- what a command line asks for, and `None` where it is not understood
-abbrev pub asked : List Text → Option Asked
-asked [] = None
-asked (word ∷ rest) = asked_by word (word ∷ rest)
+-- what a command line asks for, by the first of its words, and `None` where it is not understood
+unfoldable pub asked : List Text → Option Asked
+asked words = option_and_then (λ row. asked_of row words) (row_named words)

@@ -1,5 +1,5 @@
 -- What a command with its options is, as plain data.
-use Rattle.std.specs.Prelude.{◌≡◌, ℕ, ⊤, Bool, true, false, List, [], Option, Some, None, Result}
+use Rattle.std.specs.Prelude.{◌≡◌, ℕ, Bool, true, false, List, [], Option, Some, None, Result}
 use Rattle.std.specs.Prelude.{MatchResult}
 use Rattle.unwrap.specs.declared.command_line.Command.{Command}
 use Rattle.unwrap.specs.declared.command_line.Command.TheVariants as command
@@ -31,19 +31,24 @@ named (Some (Unwrap stream strategy)) = stream.files
 named (Some (StreamText stream)) = stream.files
 named _ = []
 
--- what holds of one command alone
-abbrev pub OnUnwrap : Option Asked → (Stream → RecoverStrategy → Type 0) → Type 0
-OnUnwrap (Some (Unwrap stream strategy)) P = P stream strategy
-OnUnwrap _ P = ⊤
+-- what each command is asked for, where it is the one that is asked
+abbrev pub unwrap_asked : Option Asked → Option (Stream × RecoverStrategy)
+unwrap_asked (Some (Unwrap stream strategy)) = Some (stream, strategy)
+unwrap_asked _ = None
 
-abbrev pub OnQuoted : Option Asked → (Bool → Quoted → Type 0) → Type 0
-OnQuoted (Some (QpEncode options)) P = P true options
-OnQuoted (Some (QpDecode options)) P = P false options
-OnQuoted _ P = ⊤
+abbrev pub text_asked : Option Asked → Option Stream
+text_asked (Some (StreamText stream)) = Some stream
+text_asked _ = None
 
-abbrev pub OnText : Option Asked → (Stream → Type 0) → Type 0
-OnText (Some (StreamText stream)) P = P stream
-OnText _ P = ⊤
+-- and whether quoted-printable text is made
+abbrev pub quoted_asked : Option Asked → Option (Bool × Quoted)
+quoted_asked (Some (QpEncode options)) = Some (true, options)
+quoted_asked (Some (QpDecode options)) = Some (false, options)
+quoted_asked _ = None
+
+abbrev pub make_asked : Option Asked → Option ℕ
+make_asked (Some (Make parts)) = Some parts
+make_asked _ = None
 
 -- the sink has got something: of `text`, also where reading failed
 abbrev pub MayHaveText : Option Asked → Status → Type 0
@@ -57,7 +62,3 @@ pub record Keeps {F S K : Type 0} (asked : Option Asked) (status : Status) (shel
   pub no_fetch : named asked ≡ [] → shelf' ≡ shelf
   pub no_read : IsBeforeSource status → source' ≡ source
   pub no_write : ¬ MayHaveText asked status → sink' ≡ sink
-
-abbrev pub OnMake : Option Asked → (ℕ → Type 0) → Type 0
-OnMake (Some (Make parts)) P = P parts
-OnMake _ P = ⊤

@@ -2,7 +2,6 @@ pub mod Asked
 pub mod Commands
 pub mod Copies
 pub mod Delivers
-pub mod Description
 pub mod Files
 pub mod Header
 pub mod HeaderErrors
@@ -17,6 +16,7 @@ pub mod Same
 pub mod Status
 pub mod StreamSink
 pub mod Streams
+pub mod Table
 pub mod TablesOf
 pub mod Unwraps
 pub mod Values

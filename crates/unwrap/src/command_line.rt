@@ -1,19 +1,26 @@
 //! What a command line asks for: the command of its first word, with its options.
-ghost use Rattle.unwrap.specs.Asked.{asked, asked_by, texts_of};
+ghost use Rattle.std.specs.Prelude.{◌≡◌, true, Err, None};
+ghost use Rattle.clap.specs.Words.{found_of, is_simple_and_free, rows_of};
+ghost use Rattle.unwrap.specs.Asked.{asked, asked_of, found_in, texts_of};
 ghost use Rattle.unwrap.specs.Commands.{Gives};
+ghost use Rattle.unwrap.specs.Table.{described, row_named, row_view};
 
-pub(crate) mod description;
+mod description;
 mod kinds;
 pub(crate) mod matched;
 pub(crate) mod options;
+mod table;
 pub(crate) mod values;
 
-use crate::command_line::matched::Refusal;
+use crate::command_line::description::described;
+use crate::command_line::matched::{Refusal, matches_in};
 use crate::command_line::options::{Parts, QuotedOptions, StreamOptions};
-use crate::run::make::make_asked;
-use crate::run::quoted::{qp_decode_asked, qp_encode_asked};
-use crate::run::text::text_asked;
-use crate::run::unwrap::unwrap_asked;
+use crate::command_line::table::{CommandName, Row, row_named};
+use crate::run::make::make_given;
+use crate::run::quoted::{qp_decode_given, qp_encode_given};
+use crate::run::text::text_given;
+use crate::run::unwrap::unwrap_given;
+use clap::ArgMatches;
 use std::alloc::Global;
 use words::RecoverStrategy;
 
@@ -38,26 +45,33 @@ pub(crate) enum Command<'a> {
     Make(Parts),
 }
 
-// The command of this name, by its words.
-fn asked_by<'a>(alloc: Global, name: &str, words: &'a [String]) -> Result<Command<'a>, Refusal>
-    ensures { Gives (asked_by name.now (texts_of words.entry.now)) result }
+// The command of this name, by what was found.
+fn found_in<'a>(
+    alloc: Global,
+    name: CommandName,
+    matches: &ArgMatches<'a>,
+) -> Result<Command<'a>, Refusal>
+    ensures { Gives (found_in name (rows_of (found_of matches.now))) result }
 {
-    if name == "unwrap" {
-        return unwrap_asked(alloc, words);
+    match name {
+        CommandName::Unwrap => unwrap_given(alloc, matches),
+        CommandName::Text => text_given(alloc, matches),
+        CommandName::QpEncode => qp_encode_given(matches),
+        CommandName::QpDecode => qp_decode_given(matches),
+        CommandName::Make => make_given(matches),
     }
-    if name == "text" {
-        return text_asked(alloc, words);
+}
+
+// What the words ask the command of a row for; the first of the words is passed over.
+fn asked_of<'a>(alloc: Global, row: Row, words: &'a [String]) -> Result<Command<'a>, Refusal>
+    requires { is_simple_and_free (described (row_view row)) ≡ true }
+    ensures { Gives (asked_of (row_view row.entry) (texts_of words.entry.now)) result }
+{
+    let command = described(alloc, row)?;
+    match matches_in(command, words) {
+        Ok(matches) => found_in(alloc, row.1, &matches),
+        Err(refusal) => Err(refusal),
     }
-    if name == "qp-encode" {
-        return qp_encode_asked(alloc, words);
-    }
-    if name == "qp-decode" {
-        return qp_decode_asked(alloc, words);
-    }
-    if name == "make" {
-        return make_asked(alloc, words);
-    }
-    Err(Refusal::Usage)
 }
 
 // The command that the words ask for; they are the words after the program's name.
@@ -66,11 +80,13 @@ fn asked_by<'a>(alloc: Global, name: &str, words: &'a [String]) -> Result<Comman
 //
 // `Usage` where the first word names no command, the words after it are none that the command
 // takes, or a value isn't of its form. `Memory`.
+#[tactic(auto, unfolding(crate::specs::Asked::asked))]
 pub(crate) fn command_of<'a>(alloc: Global, words: &'a [String]) -> Result<Command<'a>, Refusal>
-    ensures { Gives (asked (texts_of words.entry.now)) result }
+    ensures gives { Gives (asked (texts_of words.entry.now)) result }
+    ensures named { row_named (texts_of words.entry.now) ≡ None → result ≡ Err Refusal.Usage }
 {
-    match words.first() {
-        Some(name) => asked_by(alloc, name.as_str(), words),
+    match row_named(words) {
+        Some(row) => asked_of(alloc, row, words),
         None => Err(Refusal::Usage),
     }
 }

@@ -1,15 +1,17 @@
 //! Runs the command that the words ask for, and tells how it ended.
-ghost use Rattle.std.specs.Prelude.{◌≡◌, ◌⊎◌, None};
+ghost use Rattle.std.specs.Prelude.{◌≡◌, ◌⊎◌, None, IfSome};
 ghost use Rattle.std.specs.Io.KnownBytes.{Appends};
 ghost use Rattle.enc_io.specs.Faults.{Rose};
 ghost use Rattle.unwrap.specs.Asked.{asked, texts_of};
-ghost use Rattle.unwrap.specs.Commands.{Keeps, OnMake, OnQuoted, OnText, OnUnwrap, named};
+ghost use Rattle.unwrap.specs.Commands.{Keeps, make_asked, named, quoted_asked, text_asked};
+ghost use Rattle.unwrap.specs.Commands.{unwrap_asked};
 ghost use Rattle.unwrap.specs.Delivers.{Delivers};
 ghost use Rattle.unwrap.specs.Header.{EndsUnwrap};
 ghost use Rattle.unwrap.specs.Made.{TellsMade};
 ghost use Rattle.unwrap.specs.Quoted.{quoted_value};
 ghost use Rattle.unwrap.specs.Status.{Counts, note_of};
 ghost use Rattle.unwrap.specs.Streams.{EndsText};
+ghost use Rattle.unwrap.specs.Table.{row_named};
 ghost use Rattle.unwrap.specs.TablesOf.{TakesFiles};
 
 pub(crate) mod make;
@@ -88,6 +90,8 @@ pub fn run<S: Source, F: Shelf, K: Sink, N: Sink>(
     ensures refused { asked (texts_of words.now.items) ≡ None
         → ((result.status ≡ Status.Usage) ⊎ (result.status ≡ Status.Memory))
         × (result.source ≡ source) }
+    ensures named { row_named (texts_of words.now.items) ≡ None
+        → result.status ≡ Status.Usage }
     ensures counts { Counts result.status (S.faults source) (S.faults result.source)
         (K.faults out.old) (K.faults out.new) }
     ensures kept { Keeps (asked (texts_of words.now.items)) result.status shelf.old shelf.new
@@ -99,23 +103,23 @@ pub fn run<S: Source, F: Shelf, K: Sink, N: Sink>(
         → Appends (N.taken notes.old) (N.taken notes.new) (note_of result.status) }
 
     // The header text of all that the source held.
-    ensures unwrap { OnUnwrap (asked (texts_of words.now.items)) (λ stream strategy.
-        EndsUnwrap stream strategy (F.files shelf.old) (S.left source) (S.left result.source)
+    ensures unwrap { IfSome (unwrap_asked (asked (texts_of words.now.items))) (λ of.
+        EndsUnwrap of.0 of.1 (F.files shelf.old) (S.left source) (S.left result.source)
         (K.taken out.old) (K.taken out.new) result.status) }
 
     // The text of all that the source held.
-    ensures text { OnText (asked (texts_of words.now.items)) (λ stream.
+    ensures text { IfSome (text_asked (asked (texts_of words.now.items))) (λ stream.
         EndsText stream (F.files shelf.old) (S.left source) (S.left result.source)
         (K.taken out.old) (K.taken out.new) result.status) }
 
     // Quoted-printable text of all that the source held, or what it stands for.
-    ensures quoted { OnQuoted (asked (texts_of words.now.items)) (λ encodes options. Delivers
-        (quoted_value encodes options) options.limit (S.left source) (S.left result.source)
+    ensures quoted { IfSome (quoted_asked (asked (texts_of words.now.items))) (λ of. Delivers
+        (quoted_value of.0 of.1) of.1.limit (S.left source) (S.left result.source)
         (K.taken out.old) (K.taken out.new) result.status) }
 
     // The line that tells of a header of so many parts.
-    ensures make { OnMake (asked (texts_of words.now.items)) (λ parts. (result.source ≡ source)
-        × TellsMade parts (K.taken out.old) (K.taken out.new) result.status) }
+    ensures make { IfSome (make_asked (asked (texts_of words.now.items))) (λ parts.
+        (result.source ≡ source) × TellsMade parts (K.taken out.old) (K.taken out.new) result.status) }
 {
     match command_of(alloc, words.as_slice()) {
         Ok(Command::Unwrap(options, strategy)) => {

@@ -1,79 +1,69 @@
-//! The command lines that `clap` reads: each command is its description.
+//! The command lines that `clap` reads: each command is its row of the table.
 ghost use Rattle.std.specs.Prelude.{◌≡◌, IfOk};
 ghost use Rattle.clap.specs.Words.{app_of, with_rule};
-ghost use Rattle.unwrap.specs.Description.{flag, one_value, option, pieces, reader_options, values};
-ghost use Rattle.unwrap.specs.Description.{with_rules};
+ghost use Rattle.unwrap.specs.Table.{arguments_of, described, groups_of, row_view, rule_of};
+ghost use Rattle.unwrap.specs.Table.{with_arguments, with_groups};
 
+use crate::command_line::table::{Argument, Form, Row};
 use clap::{Arg, ArgAction, Command};
 use std::alloc::{AllocError, Global};
 
-// `--name VALUE`.
-pub(crate) fn with_option<'a>(
+fn with_argument<'a>(
     alloc: Global,
     command: Command<'a>,
+    form: Form,
     name: &'static str,
 ) -> Result<Command<'a>, AllocError>
-    ensures { IfOk result (λ c. app_of c ≡ with_rule (app_of command.entry) (option name.now)) }
+    ensures { IfOk result (λ c.
+        app_of c ≡ with_rule (app_of command.entry) (rule_of form name.now)) }
 {
-    command.arg(Arg::new(alloc, name).long(name))
+    match form {
+        Form::Value => command.arg(Arg::new(alloc, name).long(name)),
+        Form::Flag => {
+            let flag = Arg::new(alloc, name).long(name);
+            command.arg(flag.action(ArgAction::SetTrue))
+        }
+        Form::Values => command.arg(Arg::new(alloc, name).num_args(0..)),
+        Form::OneValue => command.arg(Arg::new(alloc, name).required(true)),
+    }
 }
 
-// `--name`, at most once.
-pub(crate) fn with_flag<'a>(
+fn with_arguments<'a>(
     alloc: Global,
     command: Command<'a>,
-    name: &'static str,
+    arguments: &[Argument],
 ) -> Result<Command<'a>, AllocError>
-    ensures { IfOk result (λ c. app_of c ≡ with_rule (app_of command.entry) (flag name.now)) }
+    ensures { IfOk result (λ c.
+        app_of c ≡ with_arguments (app_of command.entry) (arguments_of arguments.now)) }
 {
-    command.arg(Arg::new(alloc, name).long(name).action(ArgAction::SetTrue))
+    let mut command = command;
+    for argument in arguments {
+        let (form, name) = *argument;
+        command = with_argument(alloc, command, form, name)?;
+    }
+    Ok(command)
 }
 
-// Any number of values, also between the options.
-fn with_values<'a>(
+fn with_groups<'a>(
     alloc: Global,
     command: Command<'a>,
-    name: &'static str,
+    groups: &[&[Argument]],
 ) -> Result<Command<'a>, AllocError>
-    ensures { IfOk result (λ c. app_of c ≡ with_rule (app_of command.entry) (values name.now)) }
+    ensures { IfOk result (λ c.
+        app_of c ≡ with_groups (app_of command.entry) (groups_of groups.now)) }
 {
-    command.arg(Arg::new(alloc, name).num_args(0..))
+    let mut command = command;
+    for group in groups {
+        command = with_arguments(alloc, command, *group)?;
+    }
+    Ok(command)
 }
 
-// One value that has to be there.
-pub(crate) fn with_one_value<'a>(
-    alloc: Global,
-    command: Command<'a>,
-    name: &'static str,
-) -> Result<Command<'a>, AllocError>
-    ensures { IfOk result (λ c. app_of c ≡ with_rule (app_of command.entry) (one_value name.now)) }
+// The command of a row.
+#[tactic(auto, unfolding(crate::specs::Table::described))]
+pub(super) fn described<'a>(alloc: Global, row: Row) -> Result<Command<'a>, AllocError>
+    ensures { IfOk result (λ c. app_of c ≡ described (row_view row.entry)) }
 {
-    command.arg(Arg::new(alloc, name).required(true))
-}
-
-// How a stream of bytes becomes text.
-pub(crate) fn with_reader_options<'a>(
-    alloc: Global,
-    command: Command<'a>,
-) -> Result<Command<'a>, AllocError>
-    ensures { IfOk result (λ c. app_of c ≡ with_rules (app_of command.entry) reader_options) }
-{
-    let command = with_option(alloc, command, "encoding")?;
-    let command = with_flag(alloc, command, "utf8-passthru")?;
-    let command = with_flag(alloc, command, "strip-bom")?;
-    let command = with_flag(alloc, command, "bom-override")?;
-    let command = with_flag(alloc, command, "no-bom-sniffing")?;
-    with_option(alloc, command, "limit")
-}
-
-// The lengths of the pieces that are read and written, and the index files.
-pub(crate) fn with_pieces<'a>(
-    alloc: Global,
-    command: Command<'a>,
-) -> Result<Command<'a>, AllocError>
-    ensures { IfOk result (λ c. app_of c ≡ with_rules (app_of command.entry) pieces) }
-{
-    let command = with_option(alloc, command, "buffer")?;
-    let command = with_option(alloc, command, "piece")?;
-    with_values(alloc, command, "index")
+    let (word, _, groups) = row;
+    with_groups(alloc, Command::new(alloc, word), groups)
 }

@@ -1,18 +1,16 @@
 //! The command `make`: a long header of words, made from a number, and the line that tells of it.
 ghost use Rattle.std.specs.Prelude.{◌≡◌, ◌+◌, ◌≤◌, ◌++◌, Some, IfOk, IfSome, OnOk, codes};
 ghost use Rattle.std.specs.Prelude.{option_and_then, string_bytes, sum};
-ghost use Rattle.clap.specs.Words.{app_of, first_of, found_of, rows_of};
-ghost use Rattle.unwrap.specs.Asked.{make_asked, make_in, texts_of};
+ghost use Rattle.clap.specs.Words.{first_of, found_of, rows_of};
+ghost use Rattle.unwrap.specs.Asked.{make_in};
 ghost use Rattle.unwrap.specs.Commands.{Gives};
-ghost use Rattle.unwrap.specs.Description.{make_app};
 ghost use Rattle.unwrap.specs.Made.{Tells, TellsMade, WritesLine, line, made, part, separator};
 ghost use Rattle.unwrap.specs.Made.{tell};
 ghost use Rattle.unwrap.specs.Numbers.{number_in};
 ghost use Rattle.unwrap.specs.Status.{Counts, HasText, IsBehindFiles};
 
 use crate::command_line::Command;
-use crate::command_line::description::with_one_value;
-use crate::command_line::matched::{Refusal, matches_in};
+use crate::command_line::matched::Refusal;
 use crate::command_line::options::Parts;
 use crate::command_line::values::{first_given, number_in};
 use crate::deliver::{Made, Value, deliver};
@@ -224,13 +222,6 @@ pub(crate) fn write_made<S: Source, K: Sink>(
     Finish { status, source }
 }
 
-// `make`.
-fn make_command<'a>(alloc: Global) -> Result<clap::Command<'a>, AllocError>
-    ensures { IfOk result (λ c. app_of c ≡ make_app) }
-{
-    with_one_value(alloc, clap::Command::new(alloc, "make"), "parts")
-}
-
 // How many parts `make` is asked for; none where the text isn't a number from 1 to 20000.
 fn parts_given(matches: &ArgMatches<'_>) -> Option<u32>
     ensures number { result ≡ option_and_then (number_in 1 20000)
@@ -242,23 +233,12 @@ fn parts_given(matches: &ArgMatches<'_>) -> Option<u32>
 }
 
 // `make`, by what was found.
-fn make_given<'a>(matches: &ArgMatches<'_>) -> Result<Command<'a>, Refusal>
+pub(crate) fn make_given<'a>(matches: &ArgMatches<'_>) -> Result<Command<'a>, Refusal>
     ensures { Gives (make_in (rows_of (found_of matches.now))) result }
 {
     match parts_given(matches) {
         Some(number) => Ok(Command::Make(Parts { number })),
         None => Err(Refusal::Usage),
-    }
-}
-
-// `make`, by its words.
-pub(crate) fn make_asked<'a>(alloc: Global, words: &'a [String]) -> Result<Command<'a>, Refusal>
-    ensures { Gives (make_asked (texts_of words.entry.now)) result }
-{
-    let command = make_command(alloc)?;
-    match matches_in(command, words) {
-        Ok(matches) => make_given(&matches),
-        Err(refusal) => Err(refusal),
     }
 }
 

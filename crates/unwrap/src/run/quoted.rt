@@ -1,16 +1,13 @@
 //! The commands `qp-encode` and `qp-decode`: quoted-printable text.
 ghost use Rattle.std.specs.Prelude.{◌≡◌, None, Ok, IfOk, IfErr};
-ghost use Rattle.clap.specs.Words.{app_of, found_of, rows_of};
-ghost use Rattle.unwrap.specs.Asked.{quoted_view, qp_decode_asked, qp_decode_in, qp_encode_asked};
-ghost use Rattle.unwrap.specs.Asked.{qp_encode_in, texts_of};
+ghost use Rattle.clap.specs.Words.{found_of, rows_of};
+ghost use Rattle.unwrap.specs.Asked.{quoted_view, qp_decode_in, qp_encode_in};
 ghost use Rattle.unwrap.specs.Commands.{Gives};
 ghost use Rattle.unwrap.specs.Delivers.{Refuses};
-ghost use Rattle.unwrap.specs.Description.{qp_decode_app, qp_encode_app};
 ghost use Rattle.unwrap.specs.Quoted.{decoded_value, encoded_value, quoted_value};
 
 use crate::command_line::Command;
-use crate::command_line::description::{with_flag, with_option};
-use crate::command_line::matched::{Refusal, matches_in};
+use crate::command_line::matched::Refusal;
 use crate::command_line::options::QuotedOptions;
 use crate::deliver::{Made, Value};
 use crate::moving::read_all;
@@ -107,17 +104,8 @@ impl Value for Quoted {
     }
 }
 
-// `qp-encode`.
-fn qp_encode_command<'a>(alloc: Global) -> Result<clap::Command<'a>, AllocError>
-    ensures { IfOk result (λ c. app_of c ≡ qp_encode_app) }
-{
-    let command = with_flag(alloc, clap::Command::new(alloc, "qp-encode"), "binary")?;
-    let command = with_option(alloc, command, "line")?;
-    with_option(alloc, command, "limit")
-}
-
 // `qp-encode`, by what was found.
-fn qp_encode_given<'a>(matches: &ArgMatches<'_>) -> Result<Command<'a>, Refusal>
+pub(crate) fn qp_encode_given<'a>(matches: &ArgMatches<'_>) -> Result<Command<'a>, Refusal>
     ensures { Gives (qp_encode_in (rows_of (found_of matches.now))) result }
 {
     match QuotedOptions::given(matches, "binary") {
@@ -126,49 +114,12 @@ fn qp_encode_given<'a>(matches: &ArgMatches<'_>) -> Result<Command<'a>, Refusal>
     }
 }
 
-// `qp-encode`, by its words.
-pub(crate) fn qp_encode_asked<'a>(
-    alloc: Global,
-    words: &'a [String],
-) -> Result<Command<'a>, Refusal>
-    ensures { Gives (qp_encode_asked (texts_of words.entry.now)) result }
-{
-    let command = qp_encode_command(alloc)?;
-    match matches_in(command, words) {
-        Ok(matches) => qp_encode_given(&matches),
-        Err(refusal) => Err(refusal),
-    }
-}
-
-// `qp-decode`.
-fn qp_decode_command<'a>(alloc: Global) -> Result<clap::Command<'a>, AllocError>
-    ensures { IfOk result (λ c. app_of c ≡ qp_decode_app) }
-{
-    let command = with_flag(alloc, clap::Command::new(alloc, "qp-decode"), "strict")?;
-    let command = with_option(alloc, command, "line")?;
-    with_option(alloc, command, "limit")
-}
-
 // `qp-decode`, by what was found.
-fn qp_decode_given<'a>(matches: &ArgMatches<'_>) -> Result<Command<'a>, Refusal>
+pub(crate) fn qp_decode_given<'a>(matches: &ArgMatches<'_>) -> Result<Command<'a>, Refusal>
     ensures { Gives (qp_decode_in (rows_of (found_of matches.now))) result }
 {
     match QuotedOptions::given(matches, "strict") {
         Some(options) => Ok(Command::QpDecode(options)),
         None => Err(Refusal::Usage),
-    }
-}
-
-// `qp-decode`, by its words.
-pub(crate) fn qp_decode_asked<'a>(
-    alloc: Global,
-    words: &'a [String],
-) -> Result<Command<'a>, Refusal>
-    ensures { Gives (qp_decode_asked (texts_of words.entry.now)) result }
-{
-    let command = qp_decode_command(alloc)?;
-    match matches_in(command, words) {
-        Ok(matches) => qp_decode_given(&matches),
-        Err(refusal) => Err(refusal),
     }
 }

@@ -1,19 +1,17 @@
 //! The command `text`: the text of a stream.
-ghost use Rattle.std.specs.Prelude.{◌≡◌, ◌≢◌, ◌<◌, [], IfOk, length};
-ghost use Rattle.clap.specs.Words.{app_of, found_of, rows_of};
+ghost use Rattle.std.specs.Prelude.{◌≡◌, ◌≢◌, ◌<◌, [], length};
+ghost use Rattle.clap.specs.Words.{found_of, rows_of};
 ghost use Rattle.enc_front.specs.Indexes.{indexes_of};
 ghost use Rattle.enc_io.specs.Options.{unknown_encoding};
 ghost use Rattle.enc_io.specs.ReaderView.{standing_of};
-ghost use Rattle.unwrap.specs.Asked.{stream_view, text_asked, text_in, texts_of};
+ghost use Rattle.unwrap.specs.Asked.{stream_view, text_in};
 ghost use Rattle.unwrap.specs.Commands.{Gives};
-ghost use Rattle.unwrap.specs.Description.{text_app};
 ghost use Rattle.unwrap.specs.Status.{Counts, HasTextSoFar, IsBeforeSource, IsBehindFiles};
 ghost use Rattle.unwrap.specs.Streams.{EndsCopy, EndsText, Streams, copy_status, reader_of};
 ghost use Rattle.unwrap.specs.Streams.{writing};
 ghost use Rattle.unwrap.specs.TablesOf.{TakesFiles};
 
-use crate::command_line::description::{with_pieces, with_reader_options};
-use crate::command_line::matched::{Refusal, matches_in};
+use crate::command_line::matched::Refusal;
 use crate::command_line::options::StreamOptions;
 use crate::command_line::{Command, MOST};
 use crate::devices::shelf::Shelf;
@@ -25,7 +23,7 @@ use crate::text::{CopyFault, builder_of, copy_text};
 use clap::ArgMatches;
 use enc_front::Tables;
 use enc_io::{DecodeReaderBytes, Source};
-use std::alloc::{AllocError, Global};
+use std::alloc::Global;
 
 // The status of a copy.
 fn copy_status(copied: Result<u64, CopyFault>) -> Status
@@ -112,31 +110,15 @@ fn write_text<S: Source, K: Sink>(
     }
 }
 
-// `text`.
-fn text_command<'a>(alloc: Global) -> Result<clap::Command<'a>, AllocError>
-    ensures { IfOk result (λ c. app_of c ≡ text_app) }
-{
-    let command = with_reader_options(alloc, clap::Command::new(alloc, "text"))?;
-    with_pieces(alloc, command)
-}
-
 // `text`, by what was found.
-fn text_given<'a>(alloc: Global, matches: &ArgMatches<'a>) -> Result<Command<'a>, Refusal>
+pub(crate) fn text_given<'a>(
+    alloc: Global,
+    matches: &ArgMatches<'a>,
+) -> Result<Command<'a>, Refusal>
     ensures { Gives (text_in (rows_of (found_of matches.now))) result }
 {
     match StreamOptions::given(alloc, matches, MOST) {
         Ok(options) => Ok(Command::StreamText(options)),
-        Err(refusal) => Err(refusal),
-    }
-}
-
-// `text`, by its words.
-pub(crate) fn text_asked<'a>(alloc: Global, words: &'a [String]) -> Result<Command<'a>, Refusal>
-    ensures { Gives (text_asked (texts_of words.entry.now)) result }
-{
-    let command = text_command(alloc)?;
-    match matches_in(command, words) {
-        Ok(matches) => text_given(alloc, &matches),
         Err(refusal) => Err(refusal),
     }
 }

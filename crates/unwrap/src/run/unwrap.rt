@@ -1,18 +1,16 @@
 //! The command `unwrap`: the header text of a stream.
 ghost use Rattle.std.specs.Prelude.{◌≡◌, ◌≢◌, [], IfOk, IfErr, codes, is_ok, string_bytes};
-ghost use Rattle.clap.specs.Words.{app_of, found_of, first_of, rows_of};
+ghost use Rattle.clap.specs.Words.{found_of, first_of, rows_of};
 ghost use Rattle.enc_io.specs.Options.{unknown_encoding};
-ghost use Rattle.unwrap.specs.Asked.{stream_view, texts_of, unwrap_asked, unwrap_in};
+ghost use Rattle.unwrap.specs.Asked.{stream_view, unwrap_in};
 ghost use Rattle.unwrap.specs.Commands.{Gives};
-ghost use Rattle.unwrap.specs.Description.{unwrap_app};
 ghost use Rattle.unwrap.specs.Header.{EndsUnwrap};
 ghost use Rattle.unwrap.specs.HeaderErrors.{error_status};
 ghost use Rattle.unwrap.specs.Status.{Counts, HasText, IsBeforeSource};
 ghost use Rattle.unwrap.specs.TablesOf.{TakesFiles};
 ghost use Rattle.unwrap.specs.Values.{strategy_of, strategy_read};
 
-use crate::command_line::description::{with_option, with_pieces, with_reader_options};
-use crate::command_line::matched::{Refusal, matches_in};
+use crate::command_line::matched::Refusal;
 use crate::command_line::options::StreamOptions;
 use crate::command_line::values::first_given;
 use crate::command_line::{Command, HEADER_LIMIT};
@@ -26,7 +24,7 @@ use crate::text::builder_of;
 use clap::ArgMatches;
 use enc_front::Tables;
 use enc_io::Source;
-use std::alloc::{AllocError, Global};
+use std::alloc::Global;
 use words::RecoverStrategy;
 
 // The header text of a stream, as the command line asks for it.
@@ -82,15 +80,6 @@ impl Value for Header<'_> {
     }
 }
 
-// `unwrap`.
-fn unwrap_command<'a>(alloc: Global) -> Result<clap::Command<'a>, AllocError>
-    ensures { IfOk result (λ c. app_of c ≡ unwrap_app) }
-{
-    let command = with_reader_options(alloc, clap::Command::new(alloc, "unwrap"))?;
-    let command = with_option(alloc, command, "strategy")?;
-    with_pieces(alloc, command)
-}
-
 // The strategy of a word.
 fn strategy_of(text: &str) -> Option<RecoverStrategy>
     ensures { result ≡ strategy_of text.now }
@@ -119,7 +108,10 @@ fn strategy_given(matches: &ArgMatches<'_>) -> Option<RecoverStrategy>
 }
 
 // `unwrap`, by what was found.
-fn unwrap_given<'a>(alloc: Global, matches: &ArgMatches<'a>) -> Result<Command<'a>, Refusal>
+pub(crate) fn unwrap_given<'a>(
+    alloc: Global,
+    matches: &ArgMatches<'a>,
+) -> Result<Command<'a>, Refusal>
     ensures { Gives (unwrap_in (rows_of (found_of matches.now))) result }
 {
     let Some(strategy) = strategy_given(matches) else {
@@ -127,17 +119,6 @@ fn unwrap_given<'a>(alloc: Global, matches: &ArgMatches<'a>) -> Result<Command<'
     };
     match StreamOptions::given(alloc, matches, HEADER_LIMIT) {
         Ok(options) => Ok(Command::Unwrap(options, strategy)),
-        Err(refusal) => Err(refusal),
-    }
-}
-
-// `unwrap`, by its words.
-pub(crate) fn unwrap_asked<'a>(alloc: Global, words: &'a [String]) -> Result<Command<'a>, Refusal>
-    ensures { Gives (unwrap_asked (texts_of words.entry.now)) result }
-{
-    let command = unwrap_command(alloc)?;
-    match matches_in(command, words) {
-        Ok(matches) => unwrap_given(alloc, &matches),
         Err(refusal) => Err(refusal),
     }
 }
