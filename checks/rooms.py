@@ -277,14 +277,18 @@ def module_named(file, word):
 
 def handed_on(there, name):
     """The file that has the function which a file hands on under this name."""
-    for path, other in (pair for tree in re.findall(r"pub(?:\(\w+\))? use ([^;]*);", CODE.get(there, "")) for pair in paths(tree)):
-        if other == name and len(path) > 1:
-            rest = path[1:] if path[0] in ("crate", "self") else path
-            return file_at(there[0], rest)
+    for tree in re.findall(r"pub(?:\(\w+\))? use ([^;]*);", CODE.get(there, "")):
+        for path, other in paths(tree):
+            if other == name and len(path) > 1:
+                rest = path[1:] if path[0] in ("crate", "self") else path
+                return file_at(there[0], rest)
     return there
 
 
-CALL = re.compile(r"(?P<dot>\.)?(?P<path>(?:\w+(?:::<[^;(){}]*?>)?::)*)(?P<name>\b[a-z_]\w*)(?P<turbo>::<[^;(){}]*?>)?(?P<open>\s*\()?")
+CALL = re.compile(
+    r"(?P<dot>(?<!\.)\.)?(?P<path>(?:\w+(?:::<[^;(){}]*?>)?::)*)"
+    r"(?P<name>\b[a-z_]\w*)(?P<turbo>::<[^;(){}]*?>)?(?P<open>\s*\()?"
+)
 
 
 def calls_in(caller, text):
@@ -294,7 +298,7 @@ def calls_in(caller, text):
         name = found["name"]
         if name not in BY_NAME:
             continue
-        before = text[found.start() - 1 : found.start()]
+        before = text[max(0, found.start() - 2) : found.start()].replace("..", " ")[-1:]
         if found["dot"]:
             if not found["open"]:
                 continue
@@ -353,9 +357,10 @@ def by_path(caller, words, name):
 def of_type(file, types, name):
     """The functions of this name of these types or traits, those of the file itself or imported."""
     near = {file} | {there for there, _ in NAMES[file].values()}
-    all_ = [one for one in BY_NAME[name] if (one.owner in types and not one.trait) or (not one.owner and one.trait in types)]
+    own = [one for one in BY_NAME[name] if one.owner in types and not one.trait]
+    declared = [one for one in BY_NAME[name] if not one.owner and one.trait in types]
     through = [one for one in BY_NAME[name] if one.owner in types and one.trait]
-    all_ = all_ or through
+    all_ = own + declared or through
     if len(all_) > 1:
         close = [one for one in all_ if one.file in near]
         all_ = close or [one for one in all_ if one.file[0] == file[0]] or all_
@@ -370,7 +375,10 @@ def methods(caller, text, at, name):
             one
             for one in BY_NAME[name]
             if one.file[0] == file[0]
-            and ((caller.owner and one.owner == caller.owner) or (one.trait and not one.owner and one.trait == caller.trait))
+            and (
+                (caller.owner and one.owner == caller.owner)
+                or (one.trait and not one.owner and one.trait == caller.trait)
+            )
         ]
         if own:
             yield from own
