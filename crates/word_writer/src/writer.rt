@@ -12,6 +12,7 @@ use std::alloc::{AllocError, Global};
 
 // What stands before and behind the encoded text of a word.
 const WORD_START: &str = "=?UTF-8?B?";
+
 const WORD_END: &str = "?=";
 
 // What stands between two words: the line ends, and the next one goes on with the header.
@@ -19,6 +20,7 @@ const LINE_BREAK: &str = "\r\n ";
 
 // How many octets make one group of Base64, and how many letters it has.
 const OCTETS: usize = 3;
+
 const LETTERS: usize = 4;
 
 // How many bytes the word of a group has.
@@ -116,4 +118,3 @@ pub fn write_words(alloc: Global, text: &str) -> Result<String, AllocError>
     push_words(&mut value, text)?;
     Ok(value)
 }
-

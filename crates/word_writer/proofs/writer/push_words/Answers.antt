@@ -12,7 +12,7 @@ pub loop-rest-init : goal.loop-rest-init
 loop-rest-init c = (
   subst IsUtf8 (sym c.in_ok-rest.ensures.rest) (behind-utf8 c.args.text.now c.utf8.text),
   first-written c.args.text.now c.in_ok-rest.rest.now (string_bytes c.args.written.now) (string_bytes c.push_word.new.written)
-  c.utf8.text c.requires c.in_ok-rest.ensures.word c.in_ok-rest.ensures.rest,
+      c.utf8.text c.requires c.in_ok-rest.ensures.word c.in_ok-rest.ensures.rest,
 )
 
 pub loop-rest-preserved : goal.loop-rest-preserved
@@ -20,8 +20,8 @@ loop-rest-preserved c =
     let some : 0 < length c.loop-rest.rest.now = some-from (length c.loop-rest.rest.now) (sym c.loop-rest-test.ensures) in (
       subst IsUtf8 (sym c.in_ok-rest-2.ensures.rest) (behind-utf8 c.loop-rest.rest.now c.loop-rest.invariant.0),
       later-written c.loop-rest.rest.now c.in_ok-rest-2.rest.now (string_bytes c.loop-rest.written) (string_bytes c.push_str.new.self)
-      (string_bytes c.push_word-in-loop-rest.new.written) _ c.loop-rest.invariant.0 some c.in_ok-push_str.ensures.bytes
-      c.in_ok-rest-2.ensures.word c.in_ok-rest-2.ensures.rest c.loop-rest.invariant.1,
+          (string_bytes c.push_word-in-loop-rest.new.written) _ c.loop-rest.invariant.0 some c.in_ok-push_str.ensures.bytes
+          c.in_ok-rest-2.ensures.word c.in_ok-rest-2.ensures.rest c.loop-rest.invariant.1,
     )
 
 pub returns : goal.returns
