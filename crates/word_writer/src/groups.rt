@@ -19,11 +19,10 @@ pub fn begins_with_mark(group: &str) -> bool
 fn group_room(text: &str) -> usize
     ensures { result ≡ group_room text.now }
 {
-    if begins_with_mark(text) {
-        MAX_GROUP_LEN - MARK.len()
-    } else {
-        MAX_GROUP_LEN
+    if !begins_with_mark(text) {
+        return MAX_GROUP_LEN;
     }
+    MAX_GROUP_LEN - MARK.len()
 }
 
 // How many bytes the characters have that fit into the group at the front of a text.

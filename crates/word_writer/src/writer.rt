@@ -118,3 +118,6 @@ pub fn write_words(alloc: Global, text: &str) -> Result<String, AllocError>
     push_words(&mut value, text)?;
     Ok(value)
 }
+
+#[cfg(test)]
+mod tests;
