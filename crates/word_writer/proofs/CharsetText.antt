@@ -1,12 +1,11 @@
 -- A group, read in UTF-8 as a reader of words does, is what it was without the second mark.
-use Rattle.std.proofs.Common.{◌≡◌, ℕ, ◌<◌, Bool, true, false, List, [], ◌∷◌, ◌++◌, Option, Some, None, length, refl, sym, ap, ◌∙◌, arith}
-use Rattle.std.specs.Prelude.{IsUtf8, IsAscii, codes, nat_eq, ◌&&◌, if◌then◌else◌, option_and_then}
+use Rattle.std.proofs.Common.{◌≡◌, ℕ, ◌<◌, Bool, true, false, List, [], ◌∷◌, ◌++◌, Some, None, refl, ap, ◌∙◌, arith}
+use Rattle.std.specs.Prelude.{IsUtf8, IsAscii, codes, nat_eq, if◌then◌else◌, option_and_then}
 use Rattle.std.specs.List.{starts_with}
 use Rattle.std.specs.Option.{option_map_or}
 use Rattle.std.proofs.lemmas.Bool.Decides.{nat_tests}
 use Rattle.enc_front.specs.declared.encoding.Encoding.{Encoding}
 use Rattle.enc_front.specs.declared.encoding.Encoding.TheVariants.{Utf8, Utf16Be, Utf16Le}
-use Rattle.enc_front.specs.Encoding.{label}
 use Rattle.enc_front.specs.Indexes.{Indexes, known}
 use Rattle.enc_front.specs.Marks.{mark, mark_of, without_mark}
 use Rattle.enc_front.specs.Units.{decoded}

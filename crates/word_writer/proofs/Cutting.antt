@@ -1,11 +1,11 @@
 -- The words of a text, from its front on.
-use Rattle.std.proofs.Common.{◌≡◌, ℕ, zero, suc, ◌+◌, ◌-◌, ◌<◌, ◌≤◌, Bool, true, false, List, [], ◌∷◌, ◌++◌, length, take, drop, map, refl, sym, ap, ◌∙◌, arith, append_assoc, append-nil, length-drop, length-append, replicate}
+use Rattle.std.proofs.Common.{◌≡◌, ℕ, zero, suc, ◌<◌, ◌≤◌, Bool, true, false, List, [], ◌∷◌, ◌++◌, length, drop, map, refl, sym, ap, ◌∙◌, arith, append_assoc, append-nil, length-drop, replicate}
 use Rattle.std.specs.Prelude.{IsUtf8, codes, if◌then◌else◌}
 use Rattle.std.specs.List.{flat_map}
 use Rattle.std.proofs.lemmas.Str.{IsUtf8-drop}
 use Rattle.base64.specs.Rfc4648.{encode_symbols, padding_len}
 use Rattle.words.specs.SpareBits.{alphabet}
-use Rattle.words.specs.Word.{Word, spelling}
+use Rattle.words.specs.Word.{spelling}
 use Rattle.word_writer.specs.Groups.{mark, begins_with_mark, with_mark_twice, group_len, front_group, first_groups, groups}
 use Rattle.std.proofs.lemmas.Bool.{cond-true, cond-false}
 use Rattle.word_writer.specs.Plain.{has_word_start, is_plain}

@@ -1,12 +1,12 @@
 -- Whole characters at the front of a text.
-use Rattle.std.proofs.Common.{◌≡◌, ℕ, zero, suc, ◌+◌, ◌-◌, ◌<◌, ◌≤◌, ◌⊎◌, Bool, true, false, cond, List, length, take, drop, get_or, inl, inr, ⊎_elim, refl, sym, ap, subst, ◌∙◌, arith}
+use Rattle.std.proofs.Common.{◌≡◌, ℕ, zero, suc, ◌<◌, ◌≤◌, Bool, true, false, List, length, get_or, ⊎_elim, refl, ap, subst, ◌∙◌, arith}
 use Rattle.std.specs.Prelude.{not, ◌&&◌, nat_le, nat_lt, IsCharBoundary, IsUtf8, slice_index, if◌then◌else◌}
-use Rattle.std.proofs.lemmas.Bool.{and_parts, and_from, cases_lt, cond-true, cond-false}
+use Rattle.std.proofs.lemmas.Bool.{cases_lt}
 use Rattle.std.proofs.lemmas.Bool.Decides.{nat_tests}
 use Rattle.std.proofs.lemmas.List.{get_or_past}
 use Rattle.std.proofs.lemmas.Str.{IsCharBoundary-start, IsCharBoundary-from_take}
 use Rattle.enc_handles.proofs.Fronts.{first_of}
-use Rattle.word_writer.specs.Groups.{is_continuation, is_between_characters, fitting, group_room, group_len, begins_with_mark}
+use Rattle.word_writer.specs.Groups.{is_between_characters, fitting, group_room, group_len, begins_with_mark}
 
 -- the test of a place between characters says what std's relation does
 byte-test : (at len b : ℕ) → (nat_le at len && not (nat_le 0x80 b && nat_lt b 0xC0)) ≡ true → (at ≤ len) × (at < len → 128 ≤ b → 192 ≤ b)

@@ -1,7 +1,7 @@
 -- The lines and the bytes of a written text.
-use Rattle.std.proofs.Common.{◌≡◌, ℕ, zero, suc, ◌+◌, ◌<◌, ◌≤◌, ◌⊎◌, inl, inr, ⊎_elim, Bool, true, false, None, List, [], ◌∷◌, ◌++◌, All, length, map, get_or, eqb, refl, sym, ap, subst, ◌∙◌, arith, append-nil}
-use Rattle.std.specs.Prelude.{IsUtf8, IsAscii, ⊤, ◌&&◌, ◌==◌, nat_le, nat_lt, if◌then◌else◌}
-use Rattle.std.specs.Option.{option_map, option_map_or}
+use Rattle.std.proofs.Common.{◌≡◌, ℕ, ◌≤◌, ⊎_elim, Bool, true, false, None, List, [], ◌∷◌, ◌++◌, All, length, map, get_or, eqb, refl, sym, ap, subst, ◌∙◌, arith, append-nil}
+use Rattle.std.specs.Prelude.{IsUtf8, IsAscii, ◌&&◌, nat_le, nat_lt, if◌then◌else◌}
+use Rattle.std.specs.Option.{option_map}
 use Rattle.std.specs.List.{flat_map, list_all, onto_first, AllByRecursion as ByRecursion}
 use Rattle.std.proofs.lemmas.Bool.{and_parts, and_from, leb-true, ltb-true, cases_lt}
 use Rattle.std.proofs.lemmas.Bool.Decides.{nat_tests}
@@ -15,7 +15,7 @@ use Rattle.enc_io.specs.Options.{default_options}
 use Rattle.enc_io.specs.Text.{chosen, stream_text}
 use Rattle.words.specs.Word.{spelling}
 use Rattle.word_writer.specs.Groups.{groups}
-use Rattle.word_writer.specs.Plain.{is_plain, is_printable, has_word_start}
+use Rattle.word_writer.specs.Plain.{is_plain, is_printable}
 use Rattle.word_writer.specs.Written.{word_of, line_break, joined_words, words_of, written}
 use Rattle.word_writer.proofs.CharsetText.{ascii-mark}
 use Rattle.word_writer.proofs.Cutting.{plain-is, words-are}

@@ -1,10 +1,10 @@
 -- A written text is read back.
-use Rattle.std.proofs.Common.{◌≡◌, ℕ, zero, suc, ◌+◌, ◌-◌, ◌<◌, ◌≤◌, inl, inr, Bool, true, false, Option, Some, None, Result, Ok, Err, List, [], ◌∷◌, ◌++◌, length, map, take, drop, refl, sym, ap, subst, ◌∙◌, arith, append_assoc, append-nil, length-append, length-take, length-drop}
-use Rattle.std.specs.Prelude.{◌⊎◌, IsSomeAnd, IsUtf8, ⊤, codes, not, ◌&&◌, ◌||◌, nat_eq, nat_lt, if◌then◌else◌}
+use Rattle.std.proofs.Common.{◌≡◌, ℕ, zero, suc, ◌≤◌, inl, inr, Bool, true, false, Option, Some, None, Ok, Err, List, [], ◌∷◌, ◌++◌, length, map, take, refl, sym, ap, subst, ◌∙◌, arith, append_assoc, append-nil, length-append, length-take}
+use Rattle.std.specs.Prelude.{◌⊎◌, IsSomeAnd, IsUtf8, ⊤, codes, not, ◌||◌, nat_eq, nat_lt, if◌then◌else◌}
 use Rattle.std.specs.List.{flat_map, list_all, starts_with}
 use Rattle.std.specs.Option.{option_or}
 use Rattle.std.specs.Cmp.Lexicographic.{pointwise}
-use Rattle.std.proofs.lemmas.Bool.{and_parts, and_from, cond-true, cond-false, false_from_ne_true}
+use Rattle.std.proofs.lemmas.Bool.{and_parts, cond-false, false_from_ne_true}
 use Rattle.std.proofs.lemmas.Bool.Decides.{nat_tests}
 use Rattle.std.proofs.lemmas.List.{take-append-drop, take-take}
 use Rattle.std.proofs.lemmas.List.Sums.{AllPass-from_list_all}
@@ -16,19 +16,18 @@ use Rattle.words.specs.declared.strategy.RecoverStrategy.{RecoverStrategy}
 use Rattle.words.specs.declared.strategy.RecoverStrategy.TheVariants.{Decode, Skip, Abort}
 use Rattle.words.specs.declared.decoder.Error.{Error}
 use Rattle.words.specs.declared.decoder.Error.TheVariants.{Memory}
-use Rattle.words.specs.Encoding.{encoding_of}
 use Rattle.words.specs.Fault.{HeaderFault, fault_of}
-use Rattle.words.specs.Header.{Text, clear_text, encoding_fault, header, length_fault, part_encoding_fault, part_text, parts_text, shown_value, unless_fault, value_by, word_text}
-use Rattle.words.specs.Joined.{join_lists, then_list, before_list}
+use Rattle.words.specs.Header.{Text, clear_text, encoding_fault, header, length_fault, part_encoding_fault, part_text, parts_text, shown_value, unless_fault, word_text}
+use Rattle.words.specs.Joined.{join_lists, then_list}
 use Rattle.words.specs.Reading.{Part, Encoded, Clear, Gap, spellings, reading_of, is_gap_byte}
-use Rattle.words.specs.Tokens.{is_too_long, is_skipped, long_words, too_long_words, display_text}
-use Rattle.words.specs.Word.{Word, IsWord, is_text_byte, spelling, word_at}
+use Rattle.words.specs.Tokens.{is_too_long, is_skipped, long_words, too_long_words}
+use Rattle.words.specs.Word.{Word, IsWord, spelling, word_at}
 use Rattle.words.proofs.ByParts.{NoWord, Reads}
 use Rattle.words.proofs.Found.{none-prefix}
 use Rattle.words.proofs.Parsing.{clear-text}
 use Rattle.words.proofs.Unique.{reading_of-spellings}
 use Rattle.words.proofs.Words.{IsWord-from_test, StartsWith-from_starts, starts-from_StartsWith}
-use Rattle.word_writer.specs.Groups.{mark, begins_with_mark, with_mark_twice, group_room, group_len, front_group, fitting, first_groups, groups}
+use Rattle.word_writer.specs.Groups.{mark, begins_with_mark, with_mark_twice, group_room, group_len, front_group, first_groups, groups}
 use Rattle.word_writer.specs.Plain.{has_word_start, is_plain, is_printable}
 use Rattle.word_writer.specs.Written.{base64, word_of, line_break, joined_words, words_of, written}
 use Rattle.word_writer.proofs.Cutting.{behind, behind-utf8, behind-shorter, plain-is, words-are}

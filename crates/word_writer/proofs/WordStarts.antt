@@ -1,5 +1,5 @@
 -- Where `=?` stands in a text.
-use Rattle.std.proofs.Common.{◌≡◌, ℕ, Bool, true, false, List, [], ◌∷◌, Option, Some, None, refl, sym, ap, subst, ◌∙◌}
+use Rattle.std.proofs.Common.{◌≡◌, ℕ, true, false, List, [], ◌∷◌, sym, ap, ◌∙◌}
 use Rattle.std.specs.Prelude.{nat_eq, ◌||◌, codes}
 use Rattle.std.specs.List.{starts_with}
 use Rattle.word_writer.specs.Plain.{has_word_start}

@@ -2,7 +2,7 @@ use Rattle.std.proofs.Common.{◌≡◌, ℕ, ◌<◌, ◌++◌, length, subst, 
 use Rattle.std.specs.Prelude.{IsUtf8, false, ◌==◌}
 use Rattle.std.proofs.lemmas.Bool.{eqb-true}
 use Rattle.std.proofs.lemmas.Bool.Decides.{nat_tests}
-use Rattle.word_writer.proofs.Cutting.{behind-utf8, first-written, later-written, later-none, later_words}
+use Rattle.word_writer.proofs.Cutting.{behind-utf8, first-written, later-written, later-none}
 use Rattle.word_writer.proofs.writer.push_words.Goals as goal
 
 some-from : (n : ℕ) → (n == 0) ≡ false → 0 < n

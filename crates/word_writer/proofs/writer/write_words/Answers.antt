@@ -1,5 +1,4 @@
-use Rattle.std.proofs.Common.{◌≡◌, true, false, ◌++◌, sym, ap, ◌∙◌, string_bytes}
-use Rattle.word_writer.specs.Plain.{is_plain}
+use Rattle.std.proofs.Common.{◌++◌, sym, ap, ◌∙◌}
 use Rattle.word_writer.specs.Written.{words_of}
 use Rattle.word_writer.proofs.Cutting.{plain-is, words-are, some-text}
 use Rattle.word_writer.proofs.writer.write_words.Goals as goal
