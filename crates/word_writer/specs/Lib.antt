@@ -1,0 +1,4 @@
+pub mod Plain
+pub mod Groups
+pub mod Written
+pub mod Laws
