@@ -1,0 +1,5 @@
+//! Mail bodies in pieces of any length, by their transfer encoding (RFC 2045, section 6).
+#![tactic(auto)]
+
+pub mod laws;
+mod letters;
