@@ -4,3 +4,4 @@ pub mod Rests
 pub mod FourLemmas
 pub mod BitGroups
 pub mod Values
+pub mod QuotedLines

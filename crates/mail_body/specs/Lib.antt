@@ -1,2 +1,4 @@
 pub mod Base64
 pub mod HeldLetters
+pub mod HeldLine
+pub mod Quoted
