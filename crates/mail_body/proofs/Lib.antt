@@ -5,3 +5,5 @@ pub mod FourLemmas
 pub mod BitGroups
 pub mod Values
 pub mod QuotedLines
+pub mod QuotedSteps
+pub mod QuotedKeeps

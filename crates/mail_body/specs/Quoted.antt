@@ -33,6 +33,26 @@ has_plain NoEscape = true
 has_plain Equals = true
 has_plain (OneByte b) = is_plain b
 
+-- what the end of the text makes of it: `=` and one byte stand as they are, and `=` alone is a soft
+-- line break
+abbrev pub last_bytes : Begun → List ℕ
+last_bytes NoEscape = []
+last_bytes Equals = []
+last_bytes (OneByte b) = 61 ∷ b ∷ []
+
+-- what the end of the line makes of it
+abbrev pub end_bytes : Begun → List ℕ
+end_bytes NoEscape = 13 ∷ 10 ∷ []
+end_bytes Equals = []
+end_bytes (OneByte b) = 61 ∷ b ∷ 13 ∷ 10 ∷ []
+
+-- how many blanks behind it make it stand as it is, whatever follows in the line: with one blank,
+-- `=` has the next byte with it
+abbrev pub blanks_needed : Begun → ℕ
+blanks_needed NoEscape = 0
+blanks_needed Equals = 2
+blanks_needed (OneByte b) = 1
+
 -- what is kept is an escape that is begun, and blanks behind it, not too many of them
 pub record IsHeld (begun : Begun) (count : ℕ) (blanks : List ℕ) : Type 0 where
   pub plain : has_plain begun ≡ true
@@ -52,13 +72,14 @@ pub record GoesOn (before : List ℕ) (byte : ℕ) (after old new : List ℕ) : 
   pub is : front ++ after ≡ before ++ byte ∷ []
   pub no_blanks : list_all (λ b. not (is_line_padding b)) after ≡ true
 
--- what is kept behind a piece ends what was kept and the bytes of the piece that may stand in text;
--- no blanks stand last before it; and runs of blanks are those that they were
+-- what is kept behind a piece ends what was kept and the bytes of the piece that may stand in text,
+-- with all blanks that stand last there; and runs of blanks are those that they were
 pub record Keeps (before piece after : List ℕ) : Type 0 where
   pub front : List ℕ
   pub is : front ++ after ≡ before ++ kept piece
-  pub apart : suffix_len is_line_padding front ≡ 0
-  pub runs : (rest : List ℕ) → has_blank_run (before ++ (kept piece ++ rest)) ≡ has_blank_run (after ++ rest)
+  pub blanks : suffix_len is_line_padding (before ++ kept piece) ≤ length after
+  pub runs : (rest : List ℕ)
+      → has_blank_run (before ++ (kept piece ++ rest)) ≡ has_blank_run (after ++ rest)
 
 -- a piece came behind what was kept: what was written before and what is still to come is the same
 -- as before it
