@@ -2,8 +2,7 @@
 use Rattle.std.proofs.Common.{◌≡◌, ℕ, ◌+◌, ◌<◌, ◌≤◌, Bool, true, false, cond, not, ◌&&◌, eqb, List, [], ◌∷◌, ◌++◌, length, get_or, take, drop, refl, ap, sym, ◌∙◌, arith, append_assoc, append-nil, subst}
 use Rattle.std.specs.List.{suffix_len, prefix_len, list_all}
 use Rattle.std.proofs.lemmas.Bool.{eqb-true, eqb-false, and_parts}
-use Rattle.std.proofs.lemmas.List.{length-append, take-append-drop, drop_more, take_more}
-use Rattle.std.proofs.Math.Seq.{take-length}
+use Rattle.std.proofs.lemmas.List.{length-append, take-append-drop, drop_more, take_more, take_all}
 use Rattle.std.proofs.lemmas.List.Sums.{suffix_len-le-length}
 use Rattle.qp.specs.Text.{is_text_octet, is_line_padding, kept}
 use Rattle.qp.specs.Line.{escape_value}
@@ -224,10 +223,10 @@ DecodesQuoted-next p piece q r old mid new i within a b =
     let P : List ℕ → Type 0 = λ x. DecodesQuoted p x r old new in
     subst P (sym (take_more piece i 0 within)) (DecodesQuoted-more p (take i piece) q (get_or piece i 0 ∷ []) r old mid new a b)
 
-pub DecodesQuoted-all : (p piece q old new : List ℕ) → DecodesQuoted p (take (length piece) piece) q old new → DecodesQuoted p piece q old new
-DecodesQuoted-all p piece q old new d =
+pub DecodesQuoted-read : (p piece q old new : List ℕ) (i : ℕ) → length piece ≤ i → DecodesQuoted p (take i piece) q old new → DecodesQuoted p piece q old new
+DecodesQuoted-read p piece q old new i whole d =
     let P : List ℕ → Type 0 = λ x. DecodesQuoted p x q old new in
-    subst P (take-length piece) d
+    subst P (take_all i piece whole) d
 
 pub run_found : (p piece q old mid : List ℕ) (i : ℕ) → i < length piece → DecodesQuoted p (take i piece) q old mid
     → ((rest : List ℕ) → has_blank_run (q ++ kept (get_or piece i 0 ∷ rest)) ≡ true) → has_blank_run (p ++ kept piece) ≡ true
@@ -237,3 +236,12 @@ run_found p piece q old mid i within a found =
     ∙ ap (λ t. has_blank_run (p ++ t)) (kept-append (take i piece) (get_or piece i 0 ∷ rest))
     ∙ a.keeps.runs (kept (get_or piece i 0 ∷ rest))
     ∙ found rest
+
+-- where what is kept has no long run, what was read has none
+pub run_free : (p piece : List ℕ) (g : Begun) (bs old new : List ℕ) → DecodesQuoted p piece (begun_bytes g ++ bs) old new
+    → has_plain g ≡ true → blank bs ≡ true → length bs ≤ MOST_BLANKS → has_blank_run (p ++ kept piece) ≡ false
+run_free p piece g bs old new d plain h few =
+    ap (λ t. has_blank_run (p ++ t)) (sym (append-nil (kept piece)))
+    ∙ d.keeps.runs []
+    ∙ ap has_blank_run (append-nil (begun_bytes g ++ bs))
+    ∙ run_none MOST_BLANKS g bs plain h few

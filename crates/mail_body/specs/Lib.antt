@@ -2,3 +2,5 @@ pub mod Base64
 pub mod HeldLetters
 pub mod HeldLine
 pub mod Quoted
+pub mod Transfer
+pub mod Transferring

@@ -55,6 +55,9 @@ pub fn decode_piece(
 ) -> (HeldLetters, usize)
     requires room { 4 * from + 3 * (length piece.now + 3) ≤ 4 * length out.old }
     ensures within { result.1 ≤ length out.old }
+    ensures count { 4 * result.1 + 3 * length (held_letters result.0)
+        ≤ 4 * from + 3 * (length (held_letters start) + length piece.now) }
+    ensures len { length out.new ≡ length out.old }
     ensures rest { (rest : List ℕ) → take result.1 out.new ++ base64_rest result.0 rest
         ≡ take from out.old ++ base64_rest start (piece.now ++ rest) }
 {

@@ -4,3 +4,7 @@
 pub mod laws;
 mod letters;
 mod quoted;
+pub mod transfer;
+mod writing;
+
+pub use transfer::Transfer;

@@ -11,7 +11,8 @@ ghost use Rattle.mail_body.specs.Quoted.{has_blank_run, blanks_needed};
 
 mod bytes;
 
-use crate::quoted::bytes::{is_blank, is_text, put, put_escape};
+use crate::quoted::bytes::{is_blank, is_text, put_escape};
+use crate::writing::put;
 use std::alloc::{AllocError, Global};
 
 /// How many tabs, spaces and CRs in a row are held at most, since they may stand at a line's end.
@@ -218,8 +219,13 @@ impl HeldLine {
         ensures decodes { IfSome result (λ end. DecodesQuoted (held_line self.old) piece.now
             (held_line self.new) [] (take end out.new)) }
         ensures within { IfSome result (λ end. end ≤ length out.new) }
+        ensures count { IfSome result (λ end.
+            end + length (held_line self.new) ≤ length (held_line self.old) + 2 * length piece.now) }
+        ensures few { length (held_line self.new) ≤ MOST_BLANKS + 2 }
         ensures none { result ≡ None
             → has_blank_run (held_line self.old ++ kept piece.now) ≡ true }
+        ensures some { IfSome result (λ _.
+            has_blank_run (held_line self.old ++ kept piece.now) ≡ false) }
         ensures len { length out.new ≡ length out.old }
     {
         let mut filled = 0;
@@ -238,6 +244,7 @@ impl HeldLine {
         requires { 2 ≤ length out.old }
         ensures value { take result out.new ≡ robust (held_line self.old) }
         ensures within { result ≤ length out.new }
+        ensures count { result ≤ length (held_line self.old) }
         ensures none { held_line self.new ≡ [] }
         ensures len { length out.new ≡ length out.old }
     {

@@ -4,6 +4,8 @@ ghost use Rattle.std.specs.Prelude.{◌≡◌, ◌+◌, ◌≤◌, [], ◌∷◌
 ghost use Rattle.qp.specs.Line.{escape_value};
 ghost use Rattle.qp.specs.Text.{is_text_octet, is_line_padding};
 
+use crate::writing::put;
+
 // Whether a byte may stand in quoted-printable text.
 pub fn is_text(byte: u8) -> bool
     ensures { result ≡ is_text_octet byte }
@@ -16,18 +18,6 @@ pub fn is_blank(byte: u8) -> bool
     ensures { result ≡ is_line_padding byte }
 {
     matches!(byte, b'\t' | b'\r' | b' ')
-}
-
-// Writes these bytes at a place, and gives the place behind them.
-pub fn put(out: &mut [u8], at: usize, bytes: &[u8]) -> usize
-    requires { at + length bytes.now ≤ length out.old }
-    ensures written { take result out.new ≡ take at out.old ++ bytes.now }
-    ensures end { result ≡ at + length bytes.now }
-    ensures len { length out.new ≡ length out.old }
-{
-    let end = at + bytes.len();
-    out[at..end].copy_from_slice(bytes);
-    end
 }
 
 // The octet that two hexadecimal digits say.

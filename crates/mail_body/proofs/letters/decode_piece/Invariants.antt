@@ -7,6 +7,7 @@ invariant-bytes l =
     record {
       within : l.at ≤ length l.piece;
       room : 4 * l.filled + 3 * length (held_letters l.held) ≤ 4 * l.from + 3 * l.at + 9;
+      count : 4 * l.filled + 3 * length (held_letters l.held) ≤ 4 * l.from + 3 * (length (held_letters l.fn.start) + l.at);
       goes : Goes l.piece l.fn.start 0 l.fn.out l.from l.held l.at l.out l.filled;
     }
 

@@ -1,6 +1,8 @@
-use Rattle.std.proofs.Common.{[], ◌+◌, refl, take, get_or, arith}
+use Rattle.std.proofs.Common.{◌≡◌, ◌≤◌, [], ◌+◌, refl, length, take, arith, length-take-le}
+use Rattle.mail_body.specs.declared.quoted.TheConstants.{MOST_BLANKS}
+use Rattle.mail_body.specs.Quoted.{DecodesQuoted}
 use Rattle.mail_body.specs.HeldLine.{held_line}
-use Rattle.mail_body.proofs.QuotedKeeps.{DecodesQuoted-none, DecodesQuoted-next, run_found}
+use Rattle.mail_body.proofs.QuotedKeeps.{DecodesQuoted-none, DecodesQuoted-next, DecodesQuoted-read, run_found, run_free}
 use Rattle.mail_body.proofs.quoted.HeldLine.decode.Goals as goal
 
 pub loop-byte-init : goal.loop-byte-init
@@ -18,3 +20,13 @@ loop-byte-preserved c = record {
       c.loop-byte-test.true c.loop-byte.invariant.decodes c.in-Some.ensures.decodes;
   room = let e = c.in-Some.ensures.end in let r = c.loop-byte.invariant.room in omega arith;
 }
+
+pub returns-clause-some : goal.returns-clause-some
+returns-clause-some c =
+    let line = c.loop-byte.self in
+    let bs = take line.count line.blanks.items in
+    let few : length bs ≤ MOST_BLANKS = let e = length-take-le line.count line.blanks.items line.held.within in let m = line.held.most in let w = line.held.within in omega arith in
+    let i = c.loop-byte.byte-index in
+    run_free (held_line c.args.self.now) c.args.piece.now line.begun bs [] (take c.loop-byte.filled c.loop-byte.out)
+    (DecodesQuoted-read (held_line c.args.self.now) c.args.piece.now (held_line line) [] (take c.loop-byte.filled c.loop-byte.out) i c.loop-byte-test.false c.loop-byte.invariant.decodes)
+    line.held.plain line.held.blank few
