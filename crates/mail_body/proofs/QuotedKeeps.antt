@@ -1,6 +1,6 @@
 -- What is kept of quoted-printable text, and what is written of it, byte by byte.
 use Rattle.std.proofs.Common.{◌≡◌, ℕ, ◌+◌, ◌<◌, ◌≤◌, Bool, true, false, cond, not, ◌&&◌, eqb, List, [], ◌∷◌, ◌++◌, length, get_or, take, drop, refl, ap, sym, ◌∙◌, arith, append_assoc, append-nil, subst}
-use Rattle.std.specs.List.{suffix_len, prefix_len, list_all}
+use Rattle.std.specs.List.{suffix_len, list_all}
 use Rattle.std.proofs.lemmas.Bool.{eqb-true, eqb-false, and_parts}
 use Rattle.std.proofs.lemmas.List.{length-append, take-append-drop, drop_more, take_more, take_all}
 use Rattle.std.proofs.lemmas.List.Sums.{suffix_len-le-length}
@@ -10,9 +10,9 @@ use Rattle.qp.specs.Robust.{robust}
 use Rattle.mail_body.specs.declared.quoted.TheConstants.{MOST_BLANKS}
 use Rattle.mail_body.specs.declared.quoted.Begun.{Begun}
 use Rattle.mail_body.specs.declared.quoted.Begun.TheVariants.{NoEscape, Equals, OneByte}
-use Rattle.mail_body.specs.Quoted.{has_run_beyond, has_blank_run, begun_bytes, end_bytes, blanks_needed, is_plain, has_plain, GoesOn, Keeps, DecodesQuoted}
+use Rattle.mail_body.specs.Quoted.{has_run_beyond, has_blank_run, begun_bytes, end_bytes, blanks_needed, is_plain, has_plain, GoesOn, DecodesQuoted}
 use Rattle.mail_body.proofs.QuotedLines.{kept_yes, kept_no, kept-append, kept-none, blank}
-use Rattle.mail_body.proofs.QuotedSteps.{robust_literal, robust_escape, robust_blank_escape, robust_held, robust_feed, robust_dropped, run_held, run_held_full, run_none, run_plain, suffix-append, plain_tests}
+use Rattle.mail_body.proofs.QuotedSteps.{robust_literal, robust_escape, robust_blank_escape, robust_held, robust_feed, robust_dropped, run_held, run_none, run_plain, suffix-append, plain_tests}
 
 -- a byte that is no blank, where this is kept; `w` is written, and then this is kept
 goes_on : (p : List ℕ) (b : ℕ) (q old new w front : List ℕ) → new ≡ old ++ w

@@ -1,17 +1,16 @@
 -- What one byte makes of what is kept of a line of quoted-printable text.
-use Rattle.std.proofs.Common.{◌≡◌, ℕ, zero, suc, ◌+◌, ◌<◌, ◌≤◌, Bool, true, false, cond, not, ◌||◌, ◌&&◌, eqb, nat_lt, List, [], ◌∷◌, ◌++◌, length, take, reverse, refl, ap, sym, ◌∙◌, arith, append_assoc, append-nil}
+use Rattle.std.proofs.Common.{◌≡◌, ℕ, ◌+◌, ◌<◌, ◌≤◌, Bool, true, false, cond, not, ◌||◌, ◌&&◌, eqb, nat_lt, List, [], ◌∷◌, ◌++◌, length, reverse, refl, ap, sym, ◌∙◌, arith, append_assoc}
 use Rattle.std.specs.List.{suffix_len, prefix_len, list_all}
-use Rattle.std.proofs.lemmas.Bool.{and_parts, eqb-true, eqb-false, not-true, le-ltb, lt-ltb, ltb-true}
-use Rattle.std.proofs.lemmas.List.{reverse-append, length-reverse, length-append}
-use Rattle.std.proofs.lemmas.List.Folds.{prefix_len-append, list_all-append}
-use Rattle.std.proofs.lemmas.List.Sums.{suffix_len-le-length}
+use Rattle.std.proofs.lemmas.Bool.{and_parts, not-true, le-ltb, lt-ltb}
+use Rattle.std.proofs.lemmas.List.{reverse-append, length-reverse}
+use Rattle.std.proofs.lemmas.List.Folds.{prefix_len-append}
 use Rattle.qp.specs.Text.{is_text_octet, is_line_padding, kept}
 use Rattle.qp.specs.Line.{parts, values, ends_soft, escape_value}
 use Rattle.qp.specs.Robust.{robust}
 use Rattle.mail_body.specs.declared.quoted.Begun.{Begun}
 use Rattle.mail_body.specs.declared.quoted.Begun.TheVariants.{NoEscape, Equals, OneByte}
 use Rattle.mail_body.specs.Quoted.{has_run_beyond, begun_bytes, last_bytes, end_bytes, blanks_needed, is_plain, has_plain}
-use Rattle.mail_body.proofs.QuotedLines.{stripped, first_of, behind, kept_yes, kept_no, kept-append, kept-none, kept_all, value_of, robust-value, no_feeds, trim_onto, trim_all, Reads, reads_none, reads_literal, reads_escape, reads_blanks, Reads-trans, by_blank, blank, escape_low, escape_high, robust_goes_on, robust_ends, robust_last, line_break}
+use Rattle.mail_body.proofs.QuotedLines.{stripped, first_of, behind, kept_no, kept-append, value_of, robust-value, no_feeds, trim_onto, trim_all, Reads, reads_none, reads_literal, reads_escape, reads_blanks, Reads-trans, by_blank, blank, escape_low, escape_high, robust_goes_on, robust_ends, robust_last, line_break}
 
 -- the tests of a plain byte
 pub record PlainTests (b : ℕ) : Type 0 where

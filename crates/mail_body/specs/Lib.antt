@@ -3,4 +3,4 @@ pub mod HeldLetters
 pub mod HeldLine
 pub mod Quoted
 pub mod Transfer
-pub mod Transferring
+pub mod TransferDecoder

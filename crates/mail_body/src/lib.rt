@@ -4,7 +4,9 @@
 pub mod laws;
 mod letters;
 mod quoted;
+#[cfg(test)]
+mod testing;
 pub mod transfer;
 mod writing;
 
-pub use transfer::Transfer;
+pub use transfer::{Transfer, TransferDecoder};

@@ -6,6 +6,9 @@ ghost use Rattle.qp.specs.Text.{kept};
 ghost use Rattle.mail_body.specs.Quoted.{has_blank_run};
 ghost use Rattle.mail_body.specs.Transfer.{Carry, Steps, fresh_carry, transferred};
 
+#[cfg(test)]
+mod tests;
+
 use crate::letters::decode_piece;
 use crate::letters::held::{HeldLetters, last_octets, put as put_octets};
 use crate::quoted::{HeldLine, MOST_BLANKS};
@@ -26,27 +29,27 @@ pub const MOST_KEPT: usize = MOST_BLANKS + 2;
 
 /// A decoder of a transfer encoding, with what it keeps between pieces.
 #[derive(Drop)]
-pub enum Transferring {
+pub enum TransferDecoder {
     Plain,
     Quoted(HeldLine),
     Base64(HeldLetters),
 }
 
-impl Transferring {
-    ghost use Rattle.mail_body.specs.Transferring.{carry_of};
+impl TransferDecoder {
+    ghost use Rattle.mail_body.specs.TransferDecoder.{carry_of};
     ghost use Rattle.mail_body.specs.declared.transfer.Transfer.TheVariants.{Quoted};
 
     /// A decoder at the start of a body. Fails only for want of memory.
-    pub fn new(alloc: Global, kind: Transfer) -> Result<Transferring, AllocError>
+    pub fn new(alloc: Global, kind: Transfer) -> Result<TransferDecoder, AllocError>
         ensures { IfOk result (λ decoder. carry_of decoder ≡ fresh_carry kind) }
     {
         match kind {
-            Transfer::Plain => Ok(Transferring::Plain),
+            Transfer::Plain => Ok(TransferDecoder::Plain),
             Transfer::Quoted => {
                 let line = HeldLine::new(alloc)?;
-                Ok(Transferring::Quoted(line))
+                Ok(TransferDecoder::Quoted(line))
             }
-            Transfer::Base64 => Ok(Transferring::Base64(HeldLetters::NoLetter)),
+            Transfer::Base64 => Ok(TransferDecoder::Base64(HeldLetters::NoLetter)),
         }
     }
 
@@ -64,9 +67,9 @@ impl Transferring {
         ensures len { length octets.new ≡ length octets.old }
     {
         match self {
-            Transferring::Plain => Some(put(octets, 0, piece)),
-            Transferring::Quoted(line) => line.decode(piece, octets),
-            Transferring::Base64(held) => {
+            TransferDecoder::Plain => Some(put(octets, 0, piece)),
+            TransferDecoder::Quoted(line) => line.decode(piece, octets),
+            TransferDecoder::Base64(held) => {
                 let (next, end) = decode_piece(*held, piece, octets, 0);
                 *held = next;
                 Some(end)
@@ -86,9 +89,9 @@ impl Transferring {
         ensures len { length octets.new ≡ length octets.old }
     {
         match self {
-            Transferring::Plain => 0,
-            Transferring::Quoted(line) => line.finish(octets),
-            Transferring::Base64(held) => {
+            TransferDecoder::Plain => 0,
+            TransferDecoder::Quoted(line) => line.finish(octets),
+            TransferDecoder::Base64(held) => {
                 let end = put_octets(last_octets(*held), octets, 0);
                 *held = HeldLetters::NoLetter;
                 end

@@ -1,6 +1,5 @@
-use Rattle.std.proofs.Common.{◌≡◌, ◌≤◌, [], ◌+◌, refl, length, take, arith, length-take-le}
+use Rattle.std.proofs.Common.{◌≤◌, [], refl, length, take, arith, length-take-le}
 use Rattle.mail_body.specs.declared.quoted.TheConstants.{MOST_BLANKS}
-use Rattle.mail_body.specs.Quoted.{DecodesQuoted}
 use Rattle.mail_body.specs.HeldLine.{held_line}
 use Rattle.mail_body.proofs.QuotedKeeps.{DecodesQuoted-none, DecodesQuoted-next, DecodesQuoted-read, run_found, run_free}
 use Rattle.mail_body.proofs.quoted.HeldLine.decode.Goals as goal

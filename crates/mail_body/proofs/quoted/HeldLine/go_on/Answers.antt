@@ -1,4 +1,4 @@
-use Rattle.std.proofs.Common.{◌≡◌, ◌<◌, ◌≤◌, [], ◌∷◌, ◌++◌, refl, sym, ap, ◌∙◌, length, take, arith, length-take-le}
+use Rattle.std.proofs.Common.{◌≡◌, ◌<◌, ◌≤◌, [], ◌∷◌, ◌++◌, ap, ◌∙◌, length, take, arith, length-take-le}
 use Rattle.mail_body.specs.Quoted.{begun_bytes, blanks_needed}
 use Rattle.mail_body.specs.HeldLine.{held_line}
 use Rattle.mail_body.proofs.QuotedKeeps.{GoesOn-at, GoesOn-one_blank, GoesOn-held, too_few}

@@ -1,4 +1,4 @@
-use Rattle.std.proofs.Common.{[], ◌∷◌, ◌++◌, refl, sym, ap, ◌∙◌, take}
+use Rattle.std.proofs.Common.{[], ◌∷◌, ◌++◌, sym, ap, ◌∙◌, take}
 use Rattle.mail_body.specs.Quoted.{begun_bytes, has_plain}
 use Rattle.mail_body.specs.HeldLine.{held_line}
 use Rattle.mail_body.proofs.QuotedKeeps.{GoesOn-at, GoesOn-escape}

@@ -1,8 +1,7 @@
-use Rattle.std.proofs.Common.{◌≡◌, ℕ, ◌≤◌, List, true, false, [], ◌∷◌, ◌++◌, refl, sym, ap, ◌∙◌, length, take, arith, length-take-le}
-use Rattle.std.proofs.lemmas.Bool.{ne_eqb}
-use Rattle.qp.specs.Text.{is_text_octet, is_line_padding, kept}
+use Rattle.std.proofs.Common.{◌≡◌, ℕ, ◌≤◌, List, ◌++◌, refl, sym, ap, ◌∙◌, length, take, arith, length-take-le}
+use Rattle.qp.specs.Text.{kept}
 use Rattle.mail_body.specs.declared.quoted.TheConstants.{MOST_BLANKS}
-use Rattle.mail_body.specs.Quoted.{begun_bytes, is_plain, has_blank_run}
+use Rattle.mail_body.specs.Quoted.{has_blank_run}
 use Rattle.mail_body.specs.HeldLine.{held_line}
 use Rattle.mail_body.proofs.QuotedLines.{kept_yes}
 use Rattle.mail_body.proofs.QuotedSteps.{run_held_full}
