@@ -9,3 +9,4 @@ pub mod BLemmas
 pub mod TextLemmas
 pub mod FrameLemmas
 pub mod WordLemmas
+pub mod PartLemmas

@@ -3,14 +3,15 @@ use Rattle.std.proofs.Common.{◌≡◌, ◌≢◌, ℕ, ◌+◌, ◌-◌, ◌<�
 use Rattle.std.specs.Option.{option_map}
 use Rattle.std.specs.Prelude.{option_and_then}
 use Rattle.std.proofs.lemmas.Bool.{or_cases, eqb-true, ne_eqb, cases_lt}
-use Rattle.std.proofs.lemmas.List.{drop_at, drop_more, drop-drop, get_or-drop, length-drop, length-append, length-take-le, take-append-drop, take_rest}
+use Rattle.std.proofs.lemmas.List.{append-nil, take_at, drop_at, drop_more, drop-drop, get_or-drop, length-drop, length-append, length-take-le, take-append-drop, take_rest}
 use Rattle.enc_front.specs.declared.encoding.Encoding.{Encoding}
 use Rattle.enc_front.specs.Indexes.{Indexes}
 use Rattle.people.specs.Frame.{Frame, frame_spelling, behind_start, frame_at}
 use Rattle.people.specs.Names.{named}
 use Rattle.people.specs.Parts.{people_syntax}
 use Rattle.people.specs.Reading.{IsSyntax}
-use Rattle.people.specs.Slices.{NoWordBefore}
+use Rattle.people.specs.declared.word.WordSlice.{WordSlice}
+use Rattle.people.specs.Slices.{NoWordBefore, Seen, seen, given, octets_of, Finds, FindsFirst}
 use Rattle.people.specs.Unfolded.{is_blank}
 use Rattle.people.specs.Word.{Word, frame_octets, resolved, word_of, word_at}
 use Rattle.people.proofs.FrameLemmas.{none-start, frame_at-spells}
@@ -110,3 +111,58 @@ module _ (T : Indexes) where
   pub first-begins : (s : List ℕ) (n : ℕ) (w : Word) → word_at T (drop n s) ≡ Some w → word_at T (w.spelling ++ drop (n + length w.spelling) s) ≡ Some w
   first-begins s n w e =
       ap (word_at T) (sym (split (drop n s) w e ∙ ap (λ z. w.spelling ++ z) (drop-drop (length w.spelling) n s))) ∙ e
+
+  -- a frame that can't be read, and one that can
+  pub word_of-none : (f : Frame) → resolved (named f.charset T) f.text (frame_octets f) ≡ None → word_of T f ≡ None
+  word_of-none f e = ap (option_map (λ (r : Encoding × List ℕ). let v : Word = record { encoding = r.0; octets = r.1; spelling = frame_spelling f } in v)) e
+
+  pub word_of-some : (f : Frame) (r : Encoding × List ℕ) → resolved (named f.charset T) f.text (frame_octets f) ≡ Some r
+      → word_of T f ≡ Some (record { encoding = r.0; octets = r.1; spelling = frame_spelling f })
+  word_of-some f r e = ap (option_map (λ (q : Encoding × List ℕ). let v : Word = record { encoding = q.0; octets = q.1; spelling = frame_spelling f } in v)) e
+
+-- a program that finds no word, and one that finds one
+pub finds-none : (word : Option Word) (old new : List ℕ) → word ≡ None → new ≡ old → Finds word old new None
+finds-none word old new e n = record {
+  seen = ap (option_map seen) (sym e);
+  octets = n ∙ (sym (append-nil old) ∙ ap (λ o. old ++ octets_of o) (sym e));
+}
+
+pub finds-some : (word : Option Word) (w : Word) (old new : List ℕ) (found : WordSlice) → word ≡ Some w → given found ≡ seen w → new ≡ old ++ w.octets → Finds word old new (Some found)
+finds-some word w old new found e g n = record {
+  seen = ap (λ z. Some z) g ∙ ap (option_map seen) (sym e);
+  octets = n ∙ ap (λ o. old ++ octets_of o) (sym e);
+}
+
+-- the octets that were appended
+pub appended : (items old v : List ℕ) (start : ℕ) → items ≡ old ++ v → start ≡ length old → take (length items - start) (drop start items) ≡ v
+appended items old v start e n = take_rest items start ∙ (ap (drop start) e ∙ drop_at old v start (sym n))
+
+pub kept : (items old v : List ℕ) (start : ℕ) → items ≡ old ++ v → start ≡ length old → take start items ≡ old
+kept items old v start e n = ap (take start) e ∙ take_at old v start (sym n)
+
+pub removed : (items old v : List ℕ) (start mark : ℕ) → items ≡ old ++ v → start ≡ length old → take start items ++ drop (start + mark) items ≡ old ++ drop mark v
+removed items old v start mark e n =
+    λ i. kept items old v start e n i ++ (sym (drop-drop mark start items) ∙ ap (drop mark) (ap (drop start) e ∙ drop_at old v start (sym n))) i
+
+-- what a program that finds no word says, and one that finds one
+pub finds-none-word : (word : Option Word) (old new : List ℕ) → Finds word old new None → (word ≡ None) × (new ≡ old)
+finds-none-word None old new f = (refl, f.octets ∙ append-nil old)
+finds-none-word (Some w) old new f = let e = f.seen in absurd (cc)
+
+pub finds-some-word : (word : Option Word) (old new : List ℕ) (found : WordSlice) → Finds word old new (Some found)
+    → (w : Word) × (word ≡ Some w) × (given found ≡ seen w) × (new ≡ old ++ w.octets)
+finds-some-word None old new found f = let e = f.seen in absurd (cc)
+finds-some-word (Some w) old new found f =
+    let e = f.seen in let same : given found ≡ seen w = cc in (w, refl, same, f.octets)
+
+-- the first word at a place, and what is behind it
+pub finds-first : (T : Indexes) (s : List ℕ) (n : ℕ) (w : Word) (found : WordSlice) (after old new : List ℕ) → word_at T (drop n s) ≡ Some w → given found ≡ seen w → NoWordBefore (word_at T) s n → n ≤ length s
+    → new ≡ old ++ w.octets → drop (n + length w.spelling) s ≡ after → FindsFirst (word_at T) s (take n s) found after old new
+finds-first T s n w found after old new e g none l o a = record {
+  word = w;
+  seen = g;
+  whole = first-whole T s n w e ∙ ap (λ z. take n s ++ (w.spelling ++ z)) a;
+  begins = ap (λ z. word_at T (w.spelling ++ z)) (sym a) ∙ first-begins T s n w e;
+  none_before = subst (NoWordBefore (word_at T) s) (sym (length-take-le n s l)) none;
+  octets = o;
+}

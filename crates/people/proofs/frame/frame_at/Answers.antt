@@ -1,4 +1,4 @@
-use Rattle.std.proofs.Common.{◌≡◌, ◌++◌, ◌-◌, ◌∷◌, ◌≤◌, ℕ, List, Some, length, drop, take, ap, sym, ◌∙◌, arith, length-append}
+use Rattle.std.proofs.Common.{◌≡◌, ◌++◌, ◌-◌, ◌∷◌, ◌≤◌, ℕ, List, Option, Some, length, drop, take, ap, sym, ◌∙◌, arith, length-append}
 use Rattle.std.specs.Option.{option_map}
 use Rattle.people.specs.declared.frame.FrameSlices.{FrameSlices}
 use Rattle.people.specs.Frame.{Frame, Cut, frame_spelling, behind_start, cut_charset, cut_letter, cut_text}
@@ -38,10 +38,39 @@ returns-in_err-text-clause-value c =
     ap (option_map (seen_frame s)) c.from_residual-in_err-text.ensures ∙ sym (none-text s i begun charset (sym c.in_ok-charset.ensures) letter (sym c.in_ok-letter.ensures) (sym c.in_err-text.ensures))
 
 pub slice_bounds-spelling-count : goal.slice_bounds-spelling-count
-slice_bounds-spelling-count c = ?
+slice_bounds-spelling-count c =
+    let s : List ℕ = c.args.bytes.now in
+    let i : List ℕ = c.in_ok-inside.inside.now in
+    let begun : behind_start s ≡ Some i = start-found s i c.in_ok-inside.ensures.cases.0 c.in_ok-inside.ensures.cases.1 in
+    let charset : Cut = (c.in_ok-charset.charset.now, c.in_ok-charset.rest.now) in
+    let letter : ℕ × List ℕ = (c.in_ok-letter.letter, c.in_ok-letter.rest.now) in
+    let text : Cut = (c.in_ok-text.text.now, c.in_ok-text.after.now) in
+    let f : Frame = record { charset = charset.0; letter = letter.0; text = text.0 } in
+    let spelled : s ≡ frame_spelling f ++ text.1 = frame-spells s i begun charset (sym c.in_ok-charset.ensures) letter (sym c.in_ok-letter.ensures) text (sym c.in_ok-text.ensures) in
+    omega (arith, ap length spelled, length-append (frame_spelling f) text.1)
 
 pub returns-clause-value : goal.returns-clause-value
-returns-clause-value c = ?
+returns-clause-value c =
+    let s : List ℕ = c.args.bytes.now in
+    let i : List ℕ = c.in_ok-inside.inside.now in
+    let begun : behind_start s ≡ Some i = start-found s i c.in_ok-inside.ensures.cases.0 c.in_ok-inside.ensures.cases.1 in
+    let charset : Cut = (c.in_ok-charset.charset.now, c.in_ok-charset.rest.now) in
+    let letter : ℕ × List ℕ = (c.in_ok-letter.letter, c.in_ok-letter.rest.now) in
+    let text : Cut = (c.in_ok-text.text.now, c.in_ok-text.after.now) in
+    let f : Frame = record { charset = charset.0; letter = letter.0; text = text.0 } in
+    let spelled : s ≡ frame_spelling f ++ text.1 = frame-spells s i begun charset (sym c.in_ok-charset.ensures) letter (sym c.in_ok-letter.ensures) text (sym c.in_ok-text.ensures) in
+    let found : List ℕ → Option (Frame × List ℕ) = λ z. Some (f, z) in
+    ap found (behind-cut s (frame_spelling f) text.1 spelled)
+    ∙ sym (frame-found s i begun charset (sym c.in_ok-charset.ensures) letter (sym c.in_ok-letter.ensures) text (sym c.in_ok-text.ensures))
 
 pub returns-clause-spelled : goal.returns-clause-spelled
-returns-clause-spelled c = ?
+returns-clause-spelled c =
+    let s : List ℕ = c.args.bytes.now in
+    let i : List ℕ = c.in_ok-inside.inside.now in
+    let begun : behind_start s ≡ Some i = start-found s i c.in_ok-inside.ensures.cases.0 c.in_ok-inside.ensures.cases.1 in
+    let charset : Cut = (c.in_ok-charset.charset.now, c.in_ok-charset.rest.now) in
+    let letter : ℕ × List ℕ = (c.in_ok-letter.letter, c.in_ok-letter.rest.now) in
+    let text : Cut = (c.in_ok-text.text.now, c.in_ok-text.after.now) in
+    let f : Frame = record { charset = charset.0; letter = letter.0; text = text.0 } in
+    let spelled : s ≡ frame_spelling f ++ text.1 = frame-spells s i begun charset (sym c.in_ok-charset.ensures) letter (sym c.in_ok-letter.ensures) text (sym c.in_ok-text.ensures) in
+    spelling-cut s (frame_spelling f) text.1 spelled
