@@ -1,8 +1,7 @@
 -- The parts that are still to come, where a list is read from left to right.
-use Rattle.std.proofs.Common.{◌≡◌, ℕ, suc, ◌<◌, Bool, true, false, ◌&&◌, cond, Some, None, List, [], ◌∷◌, ◌++◌, length, drop, refl, sym, ap, ◌∙◌, subst, arith}
-use Rattle.std.specs.List.{list_all}
-use Rattle.std.proofs.lemmas.List.{append-nil, drop_at}
-use Rattle.people.specs.Reading.{Syntax, IsSyntax, Part, Encoded, Clear, Gap, Piece, joined, pieces_after, clear_or_gap, with_gaps, reading_of}
+use Rattle.std.proofs.Common.{◌≡◌, ℕ, ◌<◌, Bool, true, false, Some, None, List, [], ◌∷◌, ◌++◌, length, drop, refl, sym, ap, ◌∙◌}
+use Rattle.std.proofs.lemmas.List.{append-nil}
+use Rattle.people.specs.Reading.{Syntax, IsSyntax, Part, Encoded, joined, pieces_after, clear_or_gap, with_gaps, reading_of}
 use Rattle.people.proofs.ByParts.{NoWord, NoWord-from}
 use Rattle.people.proofs.Only.{pieces-clear, pieces-spelling, pieces-end, text_before, joined-clear, text_before-fresh}
 

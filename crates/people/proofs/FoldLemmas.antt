@@ -1,9 +1,9 @@
 -- A value without its folds, line by line.
-use Rattle.std.proofs.Common.{◌≡◌, ℕ, ◌+◌, ◌-◌, ◌<◌, nat_lt, length, take, slice_index, arith, Bool, true, false, ◌==◌, ◌&&◌, ◌||◌, cond, List, [], ◌∷◌, ◌++◌, refl, sym, ap, ◌∙◌, append_assoc}
+use Rattle.std.proofs.Common.{◌≡◌, ℕ, ◌+◌, ◌-◌, ◌<◌, nat_lt, length, take, slice_index, arith, Bool, true, false, ◌==◌, ◌&&◌, ◌||◌, cond, List, [], ◌∷◌, ◌++◌, refl, sym, ap, ◌∙◌}
 use Rattle.std.proofs.Math.Bool.{and-false}
 use Rattle.std.proofs.lemmas.Bool.{and_parts, eqb-true, ltb-true, lt-ltb, cond-true, cond-false}
 use Rattle.std.proofs.lemmas.List.{take_all, take_more}
-use Rattle.people.specs.Unfolded.{is_blank, begins_blank, begins_fold, is_folding, unfolded, without_return}
+use Rattle.people.specs.Unfolded.{begins_blank, begins_fold, is_folding, unfolded, without_return}
 use Rattle.people.proofs.Bytes.{HasNone}
 
 abbrev pub is_line_end : ℕ → Bool

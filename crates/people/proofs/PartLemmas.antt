@@ -1,12 +1,12 @@
 -- The parts of a value, word by word.
-use Rattle.std.proofs.Common.{◌≡◌, ℕ, ◌+◌, ◌<◌, Bool, true, false, Some, None, List, [], ◌∷◌, ◌++◌, length, map, drop, refl, sym, ap, ◌∙◌, arith, append_assoc, length-append}
+use Rattle.std.proofs.Common.{◌≡◌, ℕ, ◌<◌, Bool, true, false, List, [], ◌∷◌, ◌++◌, length, map, refl, sym, ap, ◌∙◌, arith, append_assoc, length-append}
 use Rattle.std.proofs.lemmas.List.{map-append}
 use Rattle.enc_front.specs.Indexes.{Indexes}
 use Rattle.people.specs.declared.word.WordSlice.{WordSlice}
-use Rattle.people.specs.Parts.{people_syntax, reading}
+use Rattle.people.specs.Parts.{people_syntax}
 use Rattle.people.specs.Reading.{Part, Encoded}
 use Rattle.people.specs.Slices.{Seen, seen, given, seen_part, seen_text, NoWordBefore, FindsFirst}
-use Rattle.people.specs.Word.{Word, word_at}
+use Rattle.people.specs.Word.{word_at}
 use Rattle.people.proofs.FirstWords.{text_parts, parts_after, parts-word, parts-end}
 use Rattle.people.proofs.WordLemmas.{is_syntax, spelling-long}
 

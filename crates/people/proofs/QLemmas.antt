@@ -1,7 +1,7 @@
 -- The octets of Q texts, from left to right.
-use Rattle.std.proofs.Common.{◌≡◌, ℕ, Bool, true, false, ◌==◌, ◌&&◌, ◌||◌, cond, Option, Some, None, List, [], ◌∷◌, ◌++◌, length, ◌≤◌, drop, refl, sym, ap, ◌∙◌, append_assoc}
+use Rattle.std.proofs.Common.{◌≡◌, ℕ, Bool, true, false, ◌==◌, ◌&&◌, ◌||◌, cond, Some, None, List, [], ◌∷◌, ◌++◌, drop, refl, ap, ◌∙◌}
 use Rattle.std.specs.Char.{is_digit}
-use Rattle.std.proofs.lemmas.Bool.{cond-true, cond-false, or_cases}
+use Rattle.std.proofs.lemmas.Bool.{cond-true, cond-false}
 use Rattle.people.specs.QText.{q_octet, is_escape, hex_octet, q_octets, two_digits}
 use Rattle.people.proofs.Bytes.{HasNone}
 

@@ -1,12 +1,12 @@
 -- A word's text, byte by byte.
-use Rattle.std.proofs.Common.{◌≡◌, ℕ, ◌+◌, ◌<◌, Bool, true, false, not, ◌==◌, ◌&&◌, ◌||◌, cond, Option, Some, None, List, [], ◌∷◌, ◌++◌, length, get_or, take, drop, refl, sym, ap, ◌∙◌, arith, append_assoc}
+use Rattle.std.proofs.Common.{◌≡◌, ℕ, ◌+◌, ◌<◌, Bool, true, false, not, ◌==◌, ◌&&◌, ◌||◌, cond, Option, Some, None, List, [], ◌∷◌, ◌++◌, length, take, drop, refl, sym, ap, ◌∙◌, append_assoc}
 use Rattle.std.specs.List.{list_all}
 use Rattle.std.specs.Option.{option_map}
 use Rattle.std.specs.Prelude.{option_and_then, slice_index}
 use Rattle.std.proofs.Math.Bool.{and-false}
 use Rattle.std.proofs.lemmas.Bool.{cond-true, cond-false}
 use Rattle.std.proofs.lemmas.List.{drop_more, take_more}
-use Rattle.people.specs.Frame.{Cut, begins_in, has_start, is_text, cut_at_end, cut_text}
+use Rattle.people.specs.Frame.{Cut, begins_in, has_start, cut_at_end, cut_text}
 use Rattle.people.specs.TextSteps.{is_inside, is_text_after, kept_after, cut_after, with_byte}
 
 pub at-start : (s : List ℕ) → cut_after false s ≡ cut_text s

@@ -1,5 +1,5 @@
 -- Words of headers keep what a reading asks of words and gaps.
-use Rattle.std.proofs.Common.{◌≡◌, ◌≢◌, ℕ, ◌+◌, ◌-◌, ◌<◌, ◌≤◌, ◌⊎◌, inl, inr, Bool, true, false, ◌==◌, ◌&&◌, cond, Option, Some, None, List, [], ◌∷◌, ◌++◌, length, get_or, take, drop, refl, sym, ap, ◌∙◌, subst, arith, eq-eqb, below_more}
+use Rattle.std.proofs.Common.{◌≡◌, ℕ, ◌+◌, ◌-◌, ◌<◌, ◌≤◌, inl, inr, true, false, ◌==◌, ◌&&◌, cond, Option, Some, None, List, [], ◌∷◌, ◌++◌, length, get_or, take, drop, refl, sym, ap, ◌∙◌, subst, arith, eq-eqb, below_more}
 use Rattle.std.specs.Option.{option_map}
 use Rattle.std.specs.Prelude.{option_and_then}
 use Rattle.std.proofs.lemmas.Bool.{or_cases, eqb-true, ne_eqb, cases_lt}
@@ -11,7 +11,7 @@ use Rattle.people.specs.Names.{named}
 use Rattle.people.specs.Parts.{people_syntax}
 use Rattle.people.specs.Reading.{IsSyntax}
 use Rattle.people.specs.declared.word.WordSlice.{WordSlice}
-use Rattle.people.specs.Slices.{NoWordBefore, Seen, seen, given, octets_of, Finds, FindsFirst}
+use Rattle.people.specs.Slices.{NoWordBefore, seen, given, octets_of, Finds, FindsFirst}
 use Rattle.people.specs.Unfolded.{is_blank}
 use Rattle.people.specs.Word.{Word, frame_octets, resolved, word_of, word_at}
 use Rattle.people.proofs.FrameLemmas.{none-start, frame_at-spells}

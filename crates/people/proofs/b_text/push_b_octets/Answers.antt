@@ -1,7 +1,7 @@
-use Rattle.std.proofs.Common.{◌≡◌, ◌++◌, [], List, ℕ, length, drop, sym, ap, ◌∙◌, subst, arith}
+use Rattle.std.proofs.Common.{◌≡◌, ◌++◌, [], List, ℕ, drop, sym, ap, ◌∙◌, subst, arith}
 use Rattle.std.specs.Prelude.{OnOk}
 use Rattle.std.proofs.lemmas.List.{nil_from_length, length-drop}
-use Rattle.people.specs.BText.{group_octets, b_octets, b_octets_behind}
+use Rattle.people.specs.BText.{group_octets, b_octets_behind}
 use Rattle.people.specs.Groups.{values}
 use Rattle.people.proofs.BLemmas.{at-end}
 use Rattle.people.proofs.b_text.push_b_octets.Goals as goal

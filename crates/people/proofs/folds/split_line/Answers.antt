@@ -1,7 +1,7 @@
-use Rattle.std.proofs.Common.{ℕ, ◌+◌, ◌++◌, ◌≡◌, List, ◌∷◌, [], take, drop, length, true, false, sym, ◌∙◌, ap, arith, slice_index}
+use Rattle.std.proofs.Common.{ℕ, ◌+◌, ◌++◌, ◌≡◌, List, ◌∷◌, [], take, drop, true, false, sym, ◌∙◌, ap, arith, slice_index}
 use Rattle.std.proofs.lemmas.List.{take_rest, take_more}
 use Rattle.std.proofs.lemmas.Bool.{eqb-true}
-use Rattle.people.specs.Unfolded.{begins_blank, unfolded, without_return}
+use Rattle.people.specs.Unfolded.{begins_blank, unfolded}
 use Rattle.people.proofs.Bytes.{none-before, none-at-all, cut-at}
 use Rattle.people.proofs.FoldLemmas.{is_line_end, unfolded-text, unfolded-line, unfolded-fold}
 use Rattle.people.proofs.folds.split_line.Goals as goal

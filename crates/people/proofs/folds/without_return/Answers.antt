@@ -1,4 +1,4 @@
-use Rattle.std.proofs.Common.{sym, ◌∙◌}
+use Rattle.std.proofs.Common.{sym}
 use Rattle.people.proofs.FoldLemmas.{without_return-taken, without_return-same}
 use Rattle.people.proofs.folds.without_return.Goals as goal
 

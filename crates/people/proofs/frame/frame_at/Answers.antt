@@ -1,7 +1,7 @@
-use Rattle.std.proofs.Common.{◌≡◌, ◌++◌, ◌-◌, ◌∷◌, ◌≤◌, ℕ, List, Option, Some, length, drop, take, ap, sym, ◌∙◌, arith, length-append}
+use Rattle.std.proofs.Common.{◌≡◌, ◌++◌, ℕ, List, Option, Some, length, drop, ap, sym, ◌∙◌, arith, length-append}
 use Rattle.std.specs.Option.{option_map}
 use Rattle.people.specs.declared.frame.FrameSlices.{FrameSlices}
-use Rattle.people.specs.Frame.{Frame, Cut, frame_spelling, behind_start, cut_charset, cut_letter, cut_text}
+use Rattle.people.specs.Frame.{Frame, Cut, frame_spelling, behind_start}
 use Rattle.people.specs.Slices.{sliced_frame}
 use Rattle.people.proofs.FrameLemmas.{none-start, none-charset, none-letter, none-text, frame-found, frame-spells, start-found, start-missing, spelling-cut, behind-cut}
 use Rattle.people.proofs.frame.frame_at.Goals as goal

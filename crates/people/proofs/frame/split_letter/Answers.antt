@@ -1,4 +1,4 @@
-use Rattle.std.proofs.Common.{List, ℕ, ap, sym, ◌∙◌}
+use Rattle.std.proofs.Common.{ap, sym, ◌∙◌}
 use Rattle.std.specs.Option.{option_map}
 use Rattle.people.specs.Slices.{letter_cut_of}
 use Rattle.people.proofs.FrameLemmas.{letter-empty, letter-alone, letter-found, letter-other}

@@ -1,7 +1,6 @@
-use Rattle.std.proofs.Common.{◌≡◌, ℕ, ◌+◌, ◌<◌, List, ◌∷◌, length, slice_index, drop, false, sym, ◌∙◌, arith}
-use Rattle.std.specs.Option.{option_map}
+use Rattle.std.proofs.Common.{ℕ, ◌<◌, List, length, false, sym, ◌∙◌, arith}
 use Rattle.std.proofs.lemmas.List.{take_rest}
-use Rattle.people.specs.TextSteps.{cut_after, with_byte}
+use Rattle.people.specs.TextSteps.{cut_after}
 use Rattle.people.proofs.TextLemmas.{at-start, front-none, turn}
 use Rattle.people.proofs.frame.split_text.Goals as goal
 

@@ -1,9 +1,9 @@
-use Rattle.std.proofs.Common.{Option, ap, sym, ◌∙◌, ◌≡◌, true, false, Some, None, cond}
+use Rattle.std.proofs.Common.{Option, ap, sym, ◌∙◌, Some, None, cond}
 use Rattle.std.specs.Prelude.{option_and_then}
 use Rattle.std.proofs.lemmas.Bool.{cond-true, cond-false}
 use Rattle.enc_front.specs.declared.encoding.Encoding.{Encoding}
 use Rattle.enc_front.specs.Indexes.{Indexes, indexes_of, known}
-use Rattle.people.specs.Names.{people_label, named, without_language}
+use Rattle.people.specs.Names.{people_label, named}
 use Rattle.people.proofs.names.named.Goals as goal
 
 abbrev if_known : Indexes → Encoding → Option Encoding

@@ -1,4 +1,4 @@
-use Rattle.std.proofs.Common.{ℕ, ◌+◌, ◌-◌, ◌++◌, ◌≡◌, ◌<◌, List, ◌∷◌, take, drop, length, sym, ◌∙◌, ap, arith, slice_index}
+use Rattle.std.proofs.Common.{ℕ, ◌+◌, ◌-◌, ◌++◌, ◌<◌, List, ◌∷◌, take, drop, length, sym, ◌∙◌, ap, arith, slice_index}
 use Rattle.std.proofs.lemmas.List.{take_rest}
 use Rattle.people.specs.QText.{q_octets}
 use Rattle.people.proofs.Bytes.{none-before, none-at-all, cut-at}

@@ -1,10 +1,10 @@
-use Rattle.std.proofs.Common.{◌≡◌, ◌++◌, ◌+◌, ℕ, List, Option, Some, None, length, drop, refl, ap, sym, ◌∙◌, arith}
+use Rattle.std.proofs.Common.{◌≡◌, ℕ, List, Option, Some, None, length, drop, refl, ap, sym, ◌∙◌, arith}
 use Rattle.enc_front.specs.declared.encoding.Encoding.{Encoding}
 use Rattle.enc_front.specs.Indexes.{Indexes, indexes_of}
 use Rattle.people.specs.Frame.{Frame, frame_spelling}
 use Rattle.people.specs.Names.{named}
-use Rattle.people.specs.Slices.{sliced_frame, given, seen}
-use Rattle.people.specs.Word.{Word, frame_octets, resolved, word_of, word_at}
+use Rattle.people.specs.Slices.{sliced_frame}
+use Rattle.people.specs.Word.{Word, frame_octets, resolved}
 use Rattle.people.proofs.WordLemmas.{word-none, word-some, word_of-none, word_of-some, finds-none, finds-some, appended, kept, removed}
 use Rattle.people.proofs.word.word_at.Goals as goal
 
