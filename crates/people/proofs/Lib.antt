@@ -1,0 +1,12 @@
+pub mod ByParts
+pub mod Only
+pub mod Exists
+pub mod FirstWords
+pub mod Bytes
+pub mod FoldLemmas
+pub mod QLemmas
+pub mod BLemmas
+pub mod TextLemmas
+pub mod FrameLemmas
+pub mod WordLemmas
+pub mod PartLemmas

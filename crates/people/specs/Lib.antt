@@ -1,0 +1,12 @@
+pub mod Unfolded
+pub mod QText
+pub mod BText
+pub mod Groups
+pub mod Names
+pub mod Frame
+pub mod Word
+pub mod Reading
+pub mod Parts
+pub mod Laws
+pub mod Slices
+pub mod TextSteps
