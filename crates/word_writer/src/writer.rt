@@ -41,10 +41,12 @@ fn words_len(text: &str) -> usize {
     let mut len = 0usize;
     while !rest.is_empty() {
         let (group, more) = groups::split_group(rest);
-        len = len.saturating_add(word_len(group));
+        len = len
+            .saturating_add(word_len(group))
+            .saturating_add(LINE_BREAK.len());
         rest = more;
     }
-    len
+    len.saturating_sub(LINE_BREAK.len())
 }
 
 // Appends Base64 of the mark that begins a group. Its three octets are a group of Base64 by
