@@ -62,7 +62,7 @@ pub record Refuses (before after : BlockStanding) (number : ℕ) (error : Error)
   pub passes : Passes before after field
   pub fault : IsSomeAnd (fault_of error)
       (λ fault. header before.strategy before.indexes (value_of field) ≡ Err fault)
-  pub number : number ≡ before.passed
+  pub numbered : number ≡ before.passed
 
 -- no field is left, for good: whatever bytes follow those taken, none is to come
 pub record Ends (before after : BlockStanding) : Type 0 where
@@ -78,7 +78,7 @@ pub record IsTooLong (before after : BlockStanding) (number : ℕ) : Type 0 wher
   pub long : (more : List ℕ) → BeginsTooLong (fields (before.held.kept ++ (goes.text ++ more)))
   pub equation : (rest : List ℕ) → AreBytes rest → (has_seen_end after.held.reader ≡ true → rest ≡ [])
       → BeginsTooLong (block_still before (goes.reads.moved ++ rest))
-  pub number : number ≡ before.passed
+  pub numbered : number ≡ before.passed
   pub same_passed : after.passed ≡ before.passed
   pub stopped : after.stopped ≡ Some TooLong
 
@@ -90,7 +90,7 @@ pub record IsNotAField (before after : BlockStanding) (number : ℕ) : Type 0 wh
       → (later : List (List ℕ)) × (block_still before (goes.reads.moved ++ rest) ≡ field ∷ later)
   pub not_good : is_good field ≡ false
   pub within : length field ≤ LONGEST
-  pub number : number ≡ before.passed
+  pub numbered : number ≡ before.passed
   pub same_passed : after.passed ≡ before.passed
   pub stopped : after.stopped ≡ Some NotAField
 

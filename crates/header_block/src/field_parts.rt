@@ -3,7 +3,7 @@ ghost use Rattle.std.specs.Prelude.{◌≡◌, ◌+◌, ◌-◌, ◌≤◌, true
 ghost use Rattle.std.specs.List.{prefix_len, suffix_len};
 ghost use Rattle.header_block.specs.Fields.{is_wsp as is_wsp_byte};
 ghost use Rattle.header_block.specs.Parts.{colon_place as first_colon, is_name as is_name_text};
-ghost use Rattle.header_block.specs.Parts.{is_good, is_name_byte, name_of, value_of};
+ghost use Rattle.header_block.specs.Parts.{is_good, is_name_byte as may_name, name_of, value_of};
 
 // Space or tab.
 pub(crate) fn is_wsp(byte: u8) -> bool
@@ -14,7 +14,8 @@ pub(crate) fn is_wsp(byte: u8) -> bool
 
 // How many bytes stand before the first colon, or in all.
 fn colon_place(field: &[u8]) -> usize
-    ensures { result ≡ first_colon field.now }
+    ensures within { result ≤ length field.now }
+    ensures place { result ≡ first_colon field.now }
 {
     for (i, byte) in field.iter().enumerate() {
         if *byte == b':' {
@@ -26,7 +27,8 @@ fn colon_place(field: &[u8]) -> usize
 
 // How many bytes are left without the spaces and tabs at the end.
 fn len_without_wsp(text: &[u8]) -> usize
-    ensures { result ≡ length text.now - suffix_len is_wsp_byte text.now }
+    ensures within { result ≤ length text.now }
+    ensures len { result ≡ length text.now - suffix_len is_wsp_byte text.now }
 {
     let mut len = text.len();
     while len > 0 && is_wsp(text[len - 1]) {
@@ -37,7 +39,8 @@ fn len_without_wsp(text: &[u8]) -> usize
 
 // How many spaces and tabs stand at the front.
 fn wsp_len(text: &[u8]) -> usize
-    ensures { result ≡ prefix_len is_wsp_byte text.now }
+    ensures within { result ≤ length text.now }
+    ensures len { result ≡ prefix_len is_wsp_byte text.now }
 {
     for (i, byte) in text.iter().enumerate() {
         if !is_wsp(*byte) {
@@ -47,12 +50,22 @@ fn wsp_len(text: &[u8]) -> usize
     text.len()
 }
 
-// Whether a text may be a field's name: it isn't empty, and its bytes are printable ASCII but the
-// space.
+// Whether a byte may stand in a field's name: it is printable ASCII but the space.
+fn is_name_byte(byte: u8) -> bool
+    ensures { result ≡ may_name byte }
+{
+    33 <= byte && byte <= 126
+}
+
+// Whether a text may be a field's name: it isn't empty, and each of its bytes may stand there.
 fn is_name(name: &[u8]) -> bool
     ensures { result ≡ is_name_text name.now }
 {
-    !name.is_empty() && name.iter().all(|byte| (33..=126).contains(byte))
+    let mut all = !name.is_empty();
+    for byte in name {
+        all &= is_name_byte(*byte);
+    }
+    all
 }
 
 // The name and the value of a field that has a colon and a name before it.

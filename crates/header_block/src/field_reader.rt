@@ -1,5 +1,5 @@
 //! A reader of the fields of a header block, unfolded (RFC 5322, section 2.2.3).
-ghost use Rattle.std.specs.Prelude.{◌≡◌, ◌+◌, ◌<◌, ◌≤◌, [], ◌∷◌, ◌++◌, Ok, Err, true, false, length};
+ghost use Rattle.std.specs.Prelude.{◌≡◌, ◌⊎◌, ◌+◌, ◌<◌, ◌≤◌, [], ◌∷◌, ◌++◌, Ok, Err, true, false, length};
 ghost use Rattle.std.specs.Prelude.{take, drop, IfOk, IfErr, OnOk, vec_len, map};
 ghost use Rattle.header_block.specs.Lines.{has_lf, without_last_cr};
 ghost use Rattle.header_block.specs.Fields.{begins_wsp};
