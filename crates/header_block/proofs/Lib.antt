@@ -1,2 +1,4 @@
 pub mod FieldLemmas
+pub mod GatherLemmas
 pub mod LineLemmas
+pub mod ReadLemmas
