@@ -2,3 +2,4 @@ pub mod FieldLemmas
 pub mod GatherLemmas
 pub mod LineLemmas
 pub mod ReadLemmas
+pub mod ViewLemmas
