@@ -1,5 +1,5 @@
 -- What the steps of a reader of fields do.
-use Rattle.std.proofs.Common.{◌≡◌, ℕ, ◌+◌, ◌<◌, ◌≤◌, Bool, true, false, List, [], ◌∷◌, ◌++◌, Result, Ok, Err, length, take, drop, refl, sym, subst, ap, ◌∙◌, arith, append_assoc, append-nil, length-append, length-drop, take-append-drop}
+use Rattle.std.proofs.Common.{◌≡◌, ◌⊎◌, inl, inr, ℕ, ◌+◌, ◌<◌, ◌≤◌, Bool, true, false, List, [], ◌∷◌, ◌++◌, Result, Ok, Err, length, take, drop, refl, sym, subst, ap, ◌∙◌, arith, append_assoc, append-nil, length-append, length-drop, take-append-drop}
 use Rattle.std.proofs.Math.Nat.{lt_irrefl}
 use Rattle.enc_io.specs.Faults.{Rose}
 use Rattle.enc_io.specs.Reader.{ReaderStanding, number, HasTooMuch}
@@ -188,11 +188,11 @@ line_ends r f l w rest n empty lf with no_field no_line some few is_empty is_som
     ended : (more : List ℕ) → fields ((as_line f ++ (l ++ w)) ++ more) ≡ begun (f ++ without_last_cr (l ++ take n w)) (rest ++ more)
     ended more =
         ap fields (append_assoc (as_line f) (l ++ w) more
-          ∙ ap (λ m. as_line f ++ m) (append_assoc l w more
-            ∙ ap (λ m. l ++ (m ++ more)) (sym (take-append-drop n w))
-            ∙ ap (λ m. l ++ m) (append_assoc (take n w) (drop n w) more)
-            ∙ sym (append_assoc l (take n w) (drop n w ++ more))
-            ∙ ap (λ m. (l ++ take n w) ++ (m ++ more)) lf))
+        ∙ ap (λ m. as_line f ++ m) (append_assoc l w more
+        ∙ ap (λ m. l ++ (m ++ more)) (sym (take-append-drop n w))
+        ∙ ap (λ m. l ++ m) (append_assoc (take n w) (drop n w) more)
+        ∙ sym (append_assoc l (take n w) (drop n w ++ more))
+        ∙ ap (λ m. (l ++ take n w) ++ (m ++ more)) lf))
         ∙ line_ended f (l ++ take n w) (rest ++ more) with no_field no_line some
 
     shorter : length (f ++ without_last_cr (l ++ take n w)) + length rest < length f + (length l + length w)
@@ -231,11 +231,39 @@ line_too_long r f l w n with no_field no_line few long = record {
   long = λ more.
       subst (λ m. BeginsTooLong (fields m))
       (sym (append_assoc (as_line f) (l ++ w) more
-        ∙ ap (λ m. as_line f ++ m) (append_assoc l w more
-          ∙ ap (λ m. l ++ (m ++ more)) (sym (take-append-drop n w))
-          ∙ ap (λ m. l ++ m) (append_assoc (take n w) (drop n w) more)
-          ∙ sym (append_assoc l (take n w) (drop n w ++ more)))))
+      ∙ ap (λ m. as_line f ++ m) (append_assoc l w more
+      ∙ ap (λ m. l ++ (m ++ more)) (sym (take-append-drop n w))
+      ∙ ap (λ m. l ++ m) (append_assoc (take n w) (drop n w) more)
+      ∙ sym (append_assoc l (take n w) (drop n w ++ more)))))
       (field_too_long f (l ++ take n w) (drop n w ++ more) with no_field no_line few long);
   falls = omega (arith, ap length (take-append-drop n w), length-append (take n w) (drop n w));
   same_faults = refl;
 }
+
+never_read : (ReadFault ≡ Memory) ⊎ (ReadFault ≡ TooLong) → ⊥
+never_read (inl e) = cc
+never_read (inr e) = cc
+
+never_much : (TooMuch ≡ Memory) ⊎ (TooMuch ≡ TooLong) → ⊥
+never_much (inl e) = cc
+never_much (inr e) = cc
+
+-- bytes weren't moved to the line
+pub hold_stops : (r : ReaderStanding) (f l w : List ℕ) (n : ℕ) (b : Gathered) (error : FieldError) → goes_with f (l ++ take n w) ≡ true → has_lf f ≡ false → has_lf (l ++ take n w) ≡ false → length f ≤ LONGEST
+    → (error ≡ Memory → b ≡ at r f l w) → (error ≡ TooLong → (b ≡ at r [] [] (drop n w)) × (LONGEST < length f + length (without_last_cr (l ++ take n w)))) → (error ≡ Memory) ⊎ (error ≡ TooLong)
+    → Stops (at r f l w) b error
+hold_stops r f l w n b Memory with no_field no_line few memory long errors = subst (Gathers (at r f l w)) (sym (memory refl)) (gathers_none (at r f l w))
+hold_stops r f l w n b ReadFault with no_field no_line few memory long errors = absurd (never_read errors)
+hold_stops r f l w n b TooMuch with no_field no_line few memory long errors = absurd (never_much errors)
+hold_stops r f l w n b TooLong with no_field no_line few memory long errors =
+    subst (FindsTooLong (at r f l w)) (sym (long refl).0) (line_too_long r f l w n with no_field no_line few (long refl).1)
+
+pub lf_front : (w rest : List ℕ) → w ≡ 10 ∷ rest → w ≡ 10 ∷ drop 1 w
+lf_front w rest e = e ∙ ap (λ l. 10 ∷ l) (sym (ap (drop 1) e))
+
+-- what stands where an LF was passed and its line ended
+pub after_line : (r : ReaderStanding) (f l w : List ℕ) (held b : Gathered) → held ≡ at r f l w → b ≡ at held.reader (held.field ++ without_last_cr held.line) [] (drop 1 held.waiting) → b ≡ at r (f ++ without_last_cr l) [] (drop 1 w)
+after_line r f l w held b is then = then ∙ ap (λ (h : Gathered). at h.reader (h.field ++ without_last_cr h.line) [] (drop 1 h.waiting)) is
+
+pub same_waiting : (r : ReaderStanding) (f l w w' : List ℕ) → w ≡ w' → at r f l w ≡ at r f l w'
+same_waiting r f l w w' e = ap (at r f l) e

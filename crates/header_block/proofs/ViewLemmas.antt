@@ -1,6 +1,7 @@
 -- What a reader of fields keeps, by its text and the place where the line that has begun begins.
-use Rattle.std.proofs.Common.{◌≡◌, ℕ, ◌+◌, ◌-◌, ◌<◌, ◌≤◌, Bool, true, false, not, cond, List, [], ◌∷◌, ◌++◌, Option, None, Some, length, take, drop, get_or, refl, sym, subst, ap, ◌∙◌, arith, append_assoc, append-nil, length-append, length-drop, length-take, length-take-le, take-append-drop}
+use Rattle.std.proofs.Common.{◌≡◌, ℕ, zero, suc, eqb, ◌+◌, ◌-◌, ◌<◌, ◌≤◌, Bool, true, false, not, cond, List, [], ◌∷◌, ◌++◌, Option, None, Some, length, take, drop, get_or, refl, sym, subst, ap, ◌∙◌, arith, append_assoc, append-nil, length-append, length-drop, length-take, length-take-le, take-append-drop}
 use Rattle.std.proofs.lemmas.List.{drop-append-le, drop-drop, drop-take, get_or-drop, get_or-take, take-append-le, take_all, take_rest}
+use Rattle.std.proofs.lemmas.Bool.{eqb-true}
 use Rattle.std.proofs.Math.Seq.{take-add}
 use Rattle.std.proofs.Math.Nat.{lt_irrefl}
 use Rattle.enc_io.specs.Reader.{ReaderStanding}
@@ -47,7 +48,7 @@ pub begins_at : (start end : ℕ) (buf : List ℕ) (d : ℕ) → 0 < length (dro
 begins_at start end buf d some =
     begins_first (drop start (take end buf)) d some
     ∙ ap is_wsp (get_or-drop start (take end buf) 0 d ∙ ap (λ k. get_or (take end buf) k d) (omega arith)
-      ∙ get_or-take end buf start d (omega (arith, some, length-drop start (take end buf), length-take end buf)))
+    ∙ get_or-take end buf start d (omega (arith, some, length-drop start (take end buf), length-take end buf)))
 
 -- what waits goes on with a field where it begins with white space
 pub goes_wsp : (f l w : List ℕ) → l ≡ [] → begins_wsp w ≡ true → goes_with f (l ++ w) ≡ true
@@ -114,3 +115,14 @@ bytes_held place text more text' is within none none' = record {
   field = ap (take place) is ∙ take-append-le place text more within;
   line = ap (drop place) is ∙ drop-append-le place text more within;
 }
+
+-- whether there is a field, by the place where its lines end
+pub tells_empty : (place : ℕ) (text : List ℕ) → place ≤ length text → (field : List ℕ) → take place text ≡ field → (eqb place 0 ≡ true → field ≡ []) × (eqb place 0 ≡ false → 0 < length field)
+tells_empty place text within field is = (
+  λ e. sym is ∙ ap (λ k. take k text) (eqb-true place 0 e),
+  λ e. by_place place text within field is e,
+)
+  where
+    by_place : (place : ℕ) (text : List ℕ) → place ≤ length text → (field : List ℕ) → take place text ≡ field → eqb place 0 ≡ false → 0 < length field
+    by_place zero text within field is e = absurd (cc)
+    by_place (suc k) text within field is e = omega (arith, ap length is, length-take-le (suc k) text within)

@@ -8,3 +8,4 @@ pub mod Kept
 pub mod Lines
 pub mod Parts
 pub mod Reads
+pub mod Showing

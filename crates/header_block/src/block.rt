@@ -1,6 +1,9 @@
 //! The fields of a header block, one by one.
-ghost use Rattle.std.specs.Prelude.{◌≡◌, ◌<◌, Some, None, Ok, Err, vec_len};
+ghost use Rattle.std.specs.Prelude.{◌≡◌, ◌<◌, [], Some, None, Ok, Err, IfErr, IfNone, IfOk, IfSome};
+ghost use Rattle.std.specs.Prelude.{vec_len};
 ghost use Rattle.enc_front.specs.Indexes.{indexes_of};
+ghost use Rattle.header_block.specs.BlockCalls.{stop_answer as answer_of};
+ghost use Rattle.header_block.specs.Showing.{ShowsText};
 
 use crate::field_parts::split_field;
 use crate::field_reader::{FieldError, FieldReader};
@@ -67,6 +70,11 @@ enum FieldFault {
 }
 
 impl From<words::Error> for FieldFault {
+    ghost use Rattle.std.specs.Prelude.{◌≡◌};
+    ghost use Rattle.header_block.specs.Showing.{fault_from};
+
+    ghost from_gives = { λ inner e. e ≡ fault_from inner };
+
     fn from(error: words::Error) -> FieldFault {
         match error {
             words::Error::Memory => FieldFault::Memory,
@@ -87,7 +95,11 @@ pub struct HeaderBlock<'t, S: Source> {
 }
 
 // A field that has this name.
-fn named(alloc: Global, name: &[u8], text: String) -> Result<Field, FieldFault> {
+fn named(alloc: Global, name: &[u8], text: String) -> Result<Field, FieldFault>
+    ensures name { IfOk result (λ field. field.name.items ≡ name.now) }
+    ensures text { IfOk result (λ field. field.text ≡ text) }
+    ensures memory { IfErr result (λ fault. fault ≡ FieldFault.Memory) }
+{
     let mut bytes = Vec::new(alloc);
     if bytes.extend_from_slice(name).is_err() {
         return Err(FieldFault::Memory);
@@ -101,7 +113,9 @@ fn field_of(
     field: &[u8],
     tables: &Tables,
     strategy: RecoverStrategy,
-) -> Result<Field, FieldFault> {
+) -> Result<Field, FieldFault>
+    ensures { ShowsText strategy (indexes_of tables.now) field.now result }
+{
     let Some((name, value)) = split_field(field) else {
         return Err(FieldFault::NotAField);
     };
@@ -113,7 +127,9 @@ fn field_of(
 }
 
 // The answer of a block that stands still.
-fn stop_answer(stop: Stop, passed: u64) -> Result<Option<Field>, BlockError> {
+fn stop_answer(stop: Stop, passed: u64) -> Result<Option<Field>, BlockError>
+    ensures { result ≡ answer_of stop passed }
+{
     match stop {
         Stop::AtEnd => Ok(None),
         Stop::TooMuch => Err(BlockError::TooMuch),
@@ -126,7 +142,8 @@ impl<'t, S: Source> HeaderBlock<'t, S> {
     ghost use Rattle.enc_io.specs.ReaderView.{standing_of as reader_standing};
     ghost use Rattle.header_block.specs.Block.{fresh};
     ghost use Rattle.header_block.specs.BlockCalls.{Does};
-    ghost use Rattle.header_block.specs.BlockView.{reader_of, standing_of};
+    ghost use Rattle.header_block.specs.BlockView.{reader_of, standing_of, state_of};
+    ghost use Rattle.header_block.specs.Showing.{ShowsNext, error_answer, passed_by, stopped_by};
 
     /// The header block at the front of the text that `reader` has still to give. Values are
     /// decoded by `tables` and `strategy`. `piece`, which isn't empty, is the buffer that text is
@@ -160,7 +177,13 @@ impl<'t, S: Source> HeaderBlock<'t, S> {
     /// `ReadFault` and `TooMuch` as the reader answers. `TooLong` as soon as more than 65,536 bytes
     /// of the field were read, `NotAField` where it is whole and has no colon or no name, `Header`
     /// where its value has no text. `Memory` may come at any growth.
-    pub fn next(&mut self, alloc: Global) -> Result<Option<Field>, BlockError> {
+    pub fn next(&mut self, alloc: Global) -> Result<Option<Field>, BlockError>
+        ensures does { IfNone (standing_of self.old).stopped
+            (Does (standing_of self.old) (standing_of self.new) result) }
+        ensures latched { IfSome (standing_of self.old).stopped (λ stop.
+            (result ≡ answer_of stop (standing_of self.old).passed)
+            × (standing_of self.new ≡ standing_of self.old)) }
+    {
         if let Some(stop) = self.stopped {
             return stop_answer(stop, self.passed);
         }
@@ -178,7 +201,12 @@ impl<'t, S: Source> HeaderBlock<'t, S> {
     }
 
     // The answer to an error of the reader of fields.
-    fn refuse(&mut self, error: FieldError) -> BlockError {
+    fn refuse(&mut self, error: FieldError) -> BlockError
+        ensures answer { result ≡ error_answer error (state_of self.old).passed }
+        ensures stopped { state_of self.new ≡ record (state_of self.old) {
+          stopped = stopped_by error (state_of self.old).stopped;
+        } }
+    {
         match error {
             FieldError::Memory => BlockError::Memory,
             FieldError::ReadFault => BlockError::ReadFault,
@@ -194,7 +222,10 @@ impl<'t, S: Source> HeaderBlock<'t, S> {
     }
 
     // Shows the field that was found, or that none is left.
-    fn show(&mut self, alloc: Global) -> Result<Option<Field>, BlockError> {
+    fn show(&mut self, alloc: Global) -> Result<Option<Field>, BlockError>
+        requires { (state_of self.old).at.line ≡ [] }
+        ensures { ShowsNext (state_of self.old) (state_of self.new) result }
+    {
         if self.fields.text().is_empty() {
             self.stopped = Some(Stop::AtEnd);
             return Ok(None);
@@ -218,7 +249,10 @@ impl<'t, S: Source> HeaderBlock<'t, S> {
     }
 
     // Passes the field that was found.
-    fn pass(&mut self) {
+    fn pass(&mut self)
+        requires { (state_of self.old).at.line ≡ [] }
+        ensures { state_of self.new ≡ passed_by (state_of self.old) }
+    {
         self.fields.pass();
         self.passed = self.passed.saturating_add(1);
     }

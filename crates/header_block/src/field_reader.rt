@@ -160,7 +160,7 @@ impl<'t, S: Source> FieldReader<'t, S> {
         }
         self.start += 1;
         self.end_line();
-        Ok(self.text.is_empty())
+        Ok(self.line_start == 0)
     }
 
     // Moves the first of the waiting bytes to the line that has begun.

@@ -19,7 +19,7 @@ returns-in-Ok-eq0 g c =
     let given = c.in-Ok-eq0.ensures.end room (ap Ok c.in-Ok-eq0.field-0-test) in
     subst (Finds (gathered_of self)) (sym c.end_line.ensures)
     (fill_end (reader.standing_of self.reader) (reader.standing_of c.read.new.self) (take self.line_start self.text.items) (drop self.line_start self.text.items) (drop self.start (take self.end self.piece.items))
-      c.requires goes c.in-Ok-eq0.ensures.left given self.continued (no_lf_field self.line_start self.text.items self.no_lf) (no_lf_line self.line_start self.text.items self.no_lf) few)
+    c.requires goes c.in-Ok-eq0.ensures.left given self.continued (no_lf_field self.line_start self.text.items self.no_lf) (no_lf_line self.line_start self.text.items self.no_lf) few)
 
 pub returns-in-Ok : goal.returns-in-Ok
 returns-in-Ok g c =
@@ -28,10 +28,10 @@ returns-in-Ok g c =
     let writes = with_items_is self.piece c.read.new.buf (omega (arith, c.in-Ok.ensures.len, c.deref_mut.ensures.len, self.piece.ok.0)) in
     let before = gathered_of self in
     subst (λ (w : List ℕ). Gathers (gathered_of self) (kept (reader.standing_of c.read.new.self) (take self.line_start self.text.items) (drop self.line_start self.text.items) w)
-      × (turns (kept (reader.standing_of c.read.new.self) (take self.line_start self.text.items) (drop self.line_start self.text.items) w) < turns (gathered_of self)))
+    × (turns (kept (reader.standing_of c.read.new.self) (take self.line_start self.text.items) (drop self.line_start self.text.items) w) < turns (gathered_of self)))
     (sym (ap (take c.in-Ok.count) writes))
     (fill_read (reader.standing_of self.reader) (reader.standing_of c.read.new.self) (take self.line_start self.text.items) (drop self.line_start self.text.items) (drop self.start (take self.end self.piece.items))
-      (take c.in-Ok.count c.read.new.buf) c.requires (c.in-Ok.ensures.does room) c.in-Ok.ensures.left (omega (arith, c.in-Ok.count-test.1, c.in-Ok.ensures.within.0, length-take-le c.in-Ok.count c.read.new.buf c.in-Ok.ensures.within.0)))
+    (take c.in-Ok.count c.read.new.buf) c.requires (c.in-Ok.ensures.does room) c.in-Ok.ensures.left (omega (arith, c.in-Ok.count-test.1, c.in-Ok.ensures.within.0, length-take-le c.in-Ok.count c.read.new.buf c.in-Ok.ensures.within.0)))
 
 pub returns-in-Err-ReadFault : goal.returns-in-Err-ReadFault
 returns-in-Err-ReadFault g c =

@@ -7,7 +7,7 @@ use Rattle.header_block.proofs.ViewLemmas.{Held, bytes_held, extended, same_kept
 use Rattle.header_block.proofs.field_reader.FieldReader.hold.Goals as goal
 
 pub returns-then-self-line_len-gt-LONGEST-clause-long :
-  goal.returns-then-self-line_len-gt-LONGEST-clause-long
+    goal.returns-then-self-line_len-gt-LONGEST-clause-long
 returns-then-self-line_len-gt-LONGEST-clause-long g c =
     let self = c.args.self.now in
     let ok : is_ok c.extend_from_slice.result ≡ true = search rules in
@@ -24,7 +24,7 @@ returns-then-self-line_len-gt-LONGEST-clause-long g c =
     )
 
 pub invariant_of-self-else-self-line_len-gt-LONGEST :
-  goal.invariant_of-self-else-self-line_len-gt-LONGEST
+    goal.invariant_of-self-else-self-line_len-gt-LONGEST
 invariant_of-self-else-self-line_len-gt-LONGEST g c =
     let self = c.args.self.now in
     let ok : is_ok c.extend_from_slice.result ≡ true = search rules in
