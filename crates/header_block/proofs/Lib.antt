@@ -1,3 +1,4 @@
+pub mod BlockLemmas
 pub mod FieldLemmas
 pub mod GatherLemmas
 pub mod LineLemmas
