@@ -115,8 +115,8 @@ finds_shown s g c (Err (answer.NotAField n)) none finds shown =
         equation = λ rest are end. (
           fields (g.waiting ++ still g.reader rest),
           still_read s g.reader finds.text rest finds.reads none are end
-            ∙ finds.found (still g.reader rest) (may_come g.reader rest are end)
-            ∙ then_some g.field (fields (g.waiting ++ still g.reader rest)) shown.1,
+              ∙ finds.found (still g.reader rest) (may_come g.reader rest are end)
+              ∙ then_some g.field (fields (g.waiting ++ still g.reader rest)) shown.1,
         );
         not_good = shown.2;
         within = finds.within;

@@ -1,4 +1,5 @@
 pub mod BlockLemmas
+pub mod CallLemmas
 pub mod FieldLemmas
 pub mod GatherLemmas
 pub mod LineLemmas

@@ -1,6 +1,7 @@
 pub mod Block
 pub mod BlockCalls
 pub mod BlockView
+pub mod Calls
 pub mod FieldView
 pub mod Fields
 pub mod Gathering

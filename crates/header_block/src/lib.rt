@@ -5,6 +5,7 @@
 pub mod block;
 mod field_parts;
 mod field_reader;
+pub mod laws;
 mod lines;
 
 pub use block::{BlockError, Field, HeaderBlock};
