@@ -1,19 +1,18 @@
 -- What the calls of a header block do.
-use Rattle.std.proofs.Common.{◌≡◌, ℕ, ◌+◌, ◌<◌, ◌≤◌, Bool, true, false, Option, Some, None, List, [], ◌∷◌, ◌++◌, Result, Ok, Err, length, IfNone, refl, sym, subst, ap, ◌∙◌, arith}
+use Rattle.std.proofs.Common.{◌≡◌, ℕ, ◌<◌, true, Option, Some, None, List, [], ◌∷◌, ◌++◌, Result, Ok, Err, length, IfNone, refl, sym, subst, ap, ◌∙◌, arith}
 use Rattle.enc_drivers.specs.Units.{AreBytes}
 use Rattle.enc_io.specs.Reader.{ReaderStanding, still, has_seen_end}
 use Rattle.header_block.specs.declared.block.BlockError.{BlockError}
 use Rattle.header_block.specs.declared.block.BlockError.TheVariants as answer
 use Rattle.header_block.specs.declared.block.Field.{Field}
 use Rattle.header_block.specs.declared.block.Stop.{Stop}
-use Rattle.header_block.specs.declared.block.Stop.TheVariants as stop
 use Rattle.header_block.specs.declared.field_reader.FieldError.{FieldError}
 use Rattle.header_block.specs.declared.field_reader.FieldError.TheVariants as error
-use Rattle.header_block.specs.Block.{BlockStanding, block_still, fields_unless}
-use Rattle.header_block.specs.BlockCalls.{Does, Goes, Passes}
+use Rattle.header_block.specs.Block.{block_still, fields_unless}
+use Rattle.header_block.specs.BlockCalls.{Does, Passes}
 use Rattle.header_block.specs.Fields.{fields, BeginsTooLong}
-use Rattle.header_block.specs.Gathering.{Finds, Gathered, Stops, held_of, kept_text}
-use Rattle.header_block.specs.Kept.{as_line, field_then}
+use Rattle.header_block.specs.Gathering.{Finds, Gathered, Stops, kept_text}
+use Rattle.header_block.specs.Kept.{field_then}
 use Rattle.header_block.specs.Parts.{is_good}
 use Rattle.header_block.specs.Reads.{Reads, MayCome}
 use Rattle.header_block.specs.Showing.{BlockState, ShowsNext, error_answer, passed_by, standing_by, stopped_by}

@@ -12,7 +12,6 @@ use Rattle.enc_io.proofs.ReaderLemmas.{still_fresh}
 use Rattle.words.specs.declared.strategy.RecoverStrategy.{RecoverStrategy}
 use Rattle.words.specs.Fault.{HeaderFault, fault_of}
 use Rattle.words.specs.Header.{header}
-use Rattle.header_block.specs.declared.block.Stop.{Stop}
 use Rattle.header_block.specs.Block.{BlockStanding, block_still, fresh}
 use Rattle.header_block.specs.BlockCalls.{Goes}
 use Rattle.header_block.specs.Calls.{Calls, Shown, ends, shows, refuses, fails, lacks, shown_of, with_name}

@@ -2,13 +2,13 @@
 use Rattle.std.proofs.Common.{◌≡◌, ℕ, zero, suc, ◌+◌, ◌<◌, ◌≤◌, true, false, Bool, cond, eqb, List, [], ◌∷◌, ◌++◌, length, refl, sym, subst, ap, ◌∙◌, append_assoc, append-nil, length-append, length-drop, take, drop, get_or, arith}
 use Rattle.std.proofs.Math.Nat.{lt_irrefl}
 use Rattle.std.proofs.Math.Seq.{take-nil}
-use Rattle.std.proofs.lemmas.Bool.{cond-true, cond-false, eq-eqb, eqb-true, false_from_ne_true, ne_eqb, or_from, or_parts}
+use Rattle.std.proofs.lemmas.Bool.{cond-true, cond-false, eqb-true, false_from_ne_true, or_from, or_parts}
 use Rattle.std.specs.Prelude.{map}
 use Rattle.header_block.specs.declared.field_reader.TheConstants.{LONGEST}
 use Rattle.header_block.specs.Lines.{text_lines, lf_parts, onto_first, without_last_cr, has_lf}
 use Rattle.header_block.specs.Fields.{is_wsp, begins_wsp, header_lines, goes_on, onto_field, unfolded, fields, BeginsTooLong}
 use Rattle.header_block.specs.Kept.{as_line, goes_with, field_then}
-use Rattle.header_block.proofs.LineLemmas.{parts-front, parts-lf, lines-lf, lines-last, longer_part, has_lf-append}
+use Rattle.header_block.proofs.LineLemmas.{parts-front, lines-lf, lines-last, longer_part, has_lf-append}
 
 onto_twice : (a b : List ℕ) (rest : List (List ℕ)) → onto_field a (onto_field b rest) ≡ onto_field (a ++ b) rest
 onto_twice a b [] = refl

@@ -1,18 +1,16 @@
 -- What the steps of a reader of fields do.
-use Rattle.std.proofs.Common.{◌≡◌, ◌⊎◌, inl, inr, ℕ, ◌+◌, ◌<◌, ◌≤◌, Bool, true, false, List, [], ◌∷◌, ◌++◌, Result, Ok, Err, length, take, drop, refl, sym, subst, ap, ◌∙◌, arith, append_assoc, append-nil, length-append, length-drop, take-append-drop}
-use Rattle.std.proofs.Math.Nat.{lt_irrefl}
+use Rattle.std.proofs.Common.{◌≡◌, ◌⊎◌, inl, inr, ℕ, ◌+◌, ◌<◌, ◌≤◌, Bool, true, false, List, [], ◌∷◌, ◌++◌, Ok, length, take, drop, refl, sym, subst, ap, ◌∙◌, arith, append_assoc, append-nil, length-append, take-append-drop}
 use Rattle.enc_io.specs.Faults.{Rose}
-use Rattle.enc_io.specs.Reader.{ReaderStanding, number, HasTooMuch}
+use Rattle.enc_io.specs.Reader.{ReaderStanding}
 use Rattle.enc_io.specs.ReaderCalls.{GoesOn, Faults, Passes, HasGivenText}
-use Rattle.enc_io.specs.Reader as reader
 use Rattle.header_block.specs.declared.field_reader.FieldError.{FieldError}
 use Rattle.header_block.specs.declared.field_reader.FieldError.TheVariants.{Memory, ReadFault, TooMuch, TooLong}
 use Rattle.header_block.specs.declared.field_reader.TheConstants.{LONGEST}
 use Rattle.header_block.specs.Fields.{fields, begins_wsp, BeginsTooLong}
-use Rattle.header_block.specs.Gathering.{Gathered, Gathers, Finds, Fails, PassesLimit, FindsTooLong, Stops, Steps, held_of, kept_text, turns}
+use Rattle.header_block.specs.Gathering.{Gathered, Gathers, Finds, Fails, PassesLimit, FindsTooLong, Stops, Steps, kept_text, turns}
 use Rattle.header_block.specs.Kept.{as_line, goes_with, field_then}
 use Rattle.header_block.specs.Lines.{has_lf, without_last_cr}
-use Rattle.header_block.specs.Reads.{Reads, MayCome, IsDrained}
+use Rattle.header_block.specs.Reads.{IsDrained}
 use Rattle.header_block.proofs.FieldLemmas.{begun, begun_field, field_last, field_too_long, field_whole, fits_so_far, line_ended, line_last, no_lf-without}
 use Rattle.header_block.proofs.LineLemmas.{has_lf-append, length-without_last_cr}
 use Rattle.header_block.proofs.ReadLemmas.{none_comes, reads_moved, reads_none, reads_trans}

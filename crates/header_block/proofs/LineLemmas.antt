@@ -1,5 +1,5 @@
 -- Lines of a text whose front is known.
-use Rattle.std.proofs.Common.{◌≡◌, ℕ, zero, suc, ◌+◌, ◌-◌, ◌<◌, ◌≤◌, Bool, true, false, ◌||◌, cond, eqb, List, [], ◌∷◌, ◌++◌, length, get_or, take, drop, refl, sym, ap, ◌∙◌, subst, arith, append-nil}
+use Rattle.std.proofs.Common.{◌≡◌, ℕ, zero, suc, ◌-◌, ◌<◌, ◌≤◌, Bool, true, false, cond, eqb, List, [], ◌∷◌, ◌++◌, length, get_or, take, refl, ap, ◌∙◌, arith}
 use Rattle.std.proofs.lemmas.Bool.{or_from, or_parts, cond-false, false_from_ne_true, eq-eqb, ne_eqb}
 use Rattle.std.specs.Prelude.{map}
 use Rattle.header_block.specs.Lines.{onto_first, lf_parts, without_last_cr, text_lines, has_lf}

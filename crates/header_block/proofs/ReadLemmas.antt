@@ -1,13 +1,12 @@
 -- What reads do, one after the other.
-use Rattle.std.proofs.Common.{◌≡◌, ℕ, ◌+◌, ◌<◌, ◌≤◌, true, List, [], ◌++◌, length, refl, sym, ap, ◌∙◌, arith, append_assoc, length-append}
+use Rattle.std.proofs.Common.{◌≡◌, ℕ, ◌<◌, true, List, [], ◌++◌, refl, sym, ap, ◌∙◌, arith, append_assoc, length-append}
 use Rattle.std.proofs.lemmas.List.Elements.{All-nil}
-use Rattle.std.specs.Io.KnownBytes.{Consumes, IsAtEnd}
+use Rattle.std.specs.Io.KnownBytes.{IsAtEnd}
 use Rattle.std.proofs.KnownBytes.{Consumes-nil, Consumes-trans}
-use Rattle.enc_drivers.specs.Units.{AreBytes}
-use Rattle.enc_io.specs.Reader.{ReaderStanding, still, number, has_seen_end}
+use Rattle.enc_io.specs.Reader.{ReaderStanding, still, has_seen_end}
 use Rattle.enc_io.specs.ReaderCalls.{Moves, HasGivenText}
 use Rattle.enc_io.proofs.ReaderLemmas.{join_bytes}
-use Rattle.header_block.specs.Reads.{Reads, MayCome, IsDrained}
+use Rattle.header_block.specs.Reads.{Reads, MayCome}
 
 -- no read
 pub reads_none : (at : ReaderStanding) → Reads at at []

@@ -1,6 +1,6 @@
 -- What a reader of fields keeps, by its text and the place where the line that has begun begins.
-use Rattle.std.proofs.Common.{◌≡◌, ℕ, zero, suc, eqb, ◌+◌, ◌-◌, ◌<◌, ◌≤◌, Bool, true, false, not, cond, List, [], ◌∷◌, ◌++◌, Option, None, Some, length, take, drop, get_or, refl, sym, subst, ap, ◌∙◌, arith, append_assoc, append-nil, length-append, length-drop, length-take, length-take-le, take-append-drop}
-use Rattle.std.proofs.lemmas.List.{drop-append-le, drop-drop, drop-take, get_or-drop, get_or-take, take-append-le, take_all, take_rest}
+use Rattle.std.proofs.Common.{◌≡◌, ℕ, zero, suc, eqb, ◌+◌, ◌-◌, ◌<◌, ◌≤◌, Bool, true, false, not, cond, List, [], ◌∷◌, ◌++◌, length, take, drop, get_or, refl, sym, subst, ap, ◌∙◌, arith, length-append, length-drop, length-take, length-take-le, take-append-drop}
+use Rattle.std.proofs.lemmas.List.{drop-append-le, drop-take, get_or-drop, get_or-take, take-append-le, take_all, take_rest}
 use Rattle.std.proofs.lemmas.Bool.{eqb-true}
 use Rattle.std.proofs.Math.Seq.{take-add}
 use Rattle.std.proofs.Math.Nat.{lt_irrefl}
@@ -11,7 +11,7 @@ use Rattle.header_block.specs.Gathering.{Gathered}
 use Rattle.header_block.specs.Kept.{goes_with}
 use Rattle.header_block.specs.Lines.{has_lf, without_last_cr}
 use Rattle.header_block.proofs.FieldLemmas.{ends_goes, no_lf_left, no_lf_right, no_lf-without}
-use Rattle.header_block.proofs.LineLemmas.{has_lf-append, length-without_last_cr}
+use Rattle.header_block.proofs.LineLemmas.{has_lf-append}
 
 pub none_long : (l : List ℕ) → length l ≡ 0 → l ≡ []
 none_long [] e = refl

@@ -1,12 +1,10 @@
 -- What the calls of a header block do.
-use Rattle.std.specs.Prelude.{◌≡◌, ℕ, ◌+◌, ◌-◌, ◌^◌, ◌<◌, ◌≤◌, min, true, false, List, [], ◌∷◌, ◌++◌}
+use Rattle.std.specs.Prelude.{◌≡◌, ℕ, ◌<◌, ◌≤◌, true, false, List, [], ◌∷◌, ◌++◌}
 use Rattle.std.specs.Prelude.{length, Option, Some, None, Result, Ok, Err, IsSomeAnd, string_bytes}
 use Rattle.enc_drivers.specs.Units.{AreBytes}
-use Rattle.enc_front.specs.Indexes.{Indexes}
 use Rattle.enc_io.specs.Faults.{Rose, count_after}
 use Rattle.enc_io.specs.Reader.{has_seen_end, HasTooMuch}
 use Rattle.words.specs.declared.decoder.Error.{Error}
-use Rattle.words.specs.declared.strategy.RecoverStrategy.{RecoverStrategy}
 use Rattle.words.specs.Fault.{fault_of}
 use Rattle.words.specs.Header.{header}
 use Rattle.header_block.specs.declared.block.BlockError.{BlockError}
@@ -15,7 +13,7 @@ use Rattle.header_block.specs.declared.block.Stop.{Stop}
 use Rattle.header_block.specs.declared.block.Stop.TheVariants.{AtEnd, TooMuch, TooLong, NotAField}
 use Rattle.header_block.specs.declared.block.Field.{Field}
 use Rattle.header_block.specs.declared.field_reader.TheConstants.{LONGEST}
-use Rattle.header_block.specs.Block.{BlockStanding, Held, block_still}
+use Rattle.header_block.specs.Block.{BlockStanding, block_still}
 use Rattle.header_block.specs.Fields.{fields, BeginsTooLong}
 use Rattle.header_block.specs.Parts.{is_good, name_of, value_of}
 use Rattle.header_block.specs.Reads.{Reads}

@@ -1,5 +1,5 @@
 -- Calls of a header block, one after the other, to its end.
-use Rattle.std.specs.Prelude.{◌≡◌, ℕ, List, [], ◌∷◌, Option, Some, None, Result, Ok, Err, string_bytes}
+use Rattle.std.specs.Prelude.{◌≡◌, ℕ, List, [], ◌∷◌, Some, None, Result, Ok, Err, string_bytes}
 use Rattle.enc_front.specs.Indexes.{Indexes}
 use Rattle.words.specs.declared.decoder.Error.{Error}
 use Rattle.words.specs.declared.strategy.RecoverStrategy.{RecoverStrategy}

@@ -1,6 +1,5 @@
-use Rattle.std.proofs.Common.{rules, arith, sym, ap, ◌≡◌, true, eqb, get_or, length}
+use Rattle.std.proofs.Common.{rules, arith, sym, length}
 use Rattle.std.proofs.lemmas.List.Sums.{position_or_len_is}
-use Rattle.std.proofs.lemmas.Bool.{eq-eqb}
 use Rattle.header_block.specs.Parts.{is_colon}
 use Rattle.header_block.proofs.field_parts.colon_place.Goals as goal
 

@@ -1,4 +1,4 @@
-use Rattle.std.proofs.Common.{rules, arith, sym, ap, ◌≡◌, ◌-◌, true, eqb, get_or, length}
+use Rattle.std.proofs.Common.{rules, arith, ◌≡◌, ◌-◌, length}
 use Rattle.std.specs.List.{suffix_len}
 use Rattle.std.proofs.lemmas.List.Sums.{suffix_len_is}
 use Rattle.header_block.specs.Fields.{is_wsp}

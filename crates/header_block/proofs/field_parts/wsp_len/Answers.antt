@@ -1,4 +1,4 @@
-use Rattle.std.proofs.Common.{rules, arith, sym, ap, ◌≡◌, true, eqb, get_or, length}
+use Rattle.std.proofs.Common.{rules, arith, sym, length}
 use Rattle.std.proofs.lemmas.List.Sums.{prefix_len_is}
 use Rattle.header_block.specs.Fields.{is_wsp}
 use Rattle.header_block.proofs.field_parts.wsp_len.Goals as goal

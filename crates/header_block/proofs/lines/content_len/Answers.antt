@@ -1,4 +1,4 @@
-use Rattle.std.proofs.Common.{rules, ◌≡◌, ℕ, ◌-◌, ◌<◌, length, get_or, take, ap, sym, ◌∙◌, arith, length-take-le}
+use Rattle.std.proofs.Common.{rules, ◌-◌, length, ap, sym, ◌∙◌, arith, length-take-le}
 use Rattle.std.proofs.lemmas.List.{take_all}
 use Rattle.header_block.proofs.LineLemmas.{content_cut, content_kept}
 use Rattle.header_block.proofs.lines.content_len.Goals as goal

@@ -1,4 +1,4 @@
-use Rattle.std.proofs.Common.{◌≡◌, ℕ, length, take, get_or, eqb, true, ap, sym, ◌∙◌, arith}
+use Rattle.std.proofs.Common.{◌≡◌, length, take, eqb, ap, sym, ◌∙◌, arith}
 use Rattle.std.proofs.lemmas.List.{take_all, get_or-take, length-take-le}
 use Rattle.header_block.specs.Lines.{has_lf}
 use Rattle.header_block.proofs.LineLemmas.{has_lf-none}

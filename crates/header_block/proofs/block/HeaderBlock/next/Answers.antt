@@ -1,4 +1,4 @@
-use Rattle.std.proofs.Common.{Ok, Err}
+use Rattle.std.proofs.Common.{Err}
 use Rattle.header_block.specs.BlockView.{standing_of, state_of}
 use Rattle.header_block.specs.BlockCalls.{Does}
 use Rattle.header_block.specs.FieldView.{gathered_of}

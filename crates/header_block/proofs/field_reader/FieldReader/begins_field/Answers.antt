@@ -1,5 +1,5 @@
-use Rattle.std.proofs.Common.{arith, ◌≡◌, ◌<◌, ◌∙◌, sym, ap, not, true, false, length, take, drop, get_or, length-take-le}
-use Rattle.header_block.specs.Fields.{is_wsp, begins_wsp}
+use Rattle.std.proofs.Common.{arith, ◌∙◌, sym, ap, take, drop, length-take-le}
+use Rattle.header_block.specs.Fields.{is_wsp}
 use Rattle.header_block.proofs.ViewLemmas.{begins_at, drop_rest, goes_wsp, not_false, not_true}
 use Rattle.header_block.proofs.field_reader.FieldReader.begins_field.Goals as goal
 

@@ -1,4 +1,4 @@
-use Rattle.std.proofs.Common.{arith, ◌≡◌, ◌+◌, ◌<◌, ◌≤◌, ◌∙◌, ℕ, List, Ok, refl, sym, ap, subst, length, take, drop, length-take-le}
+use Rattle.std.proofs.Common.{arith, ◌+◌, ◌<◌, ◌≤◌, ℕ, List, Ok, sym, ap, subst, length, take, drop, length-take-le}
 use Rattle.std.proofs.lemmas.List.{with_items_is}
 use Rattle.enc_io.specs.ReaderView as reader
 use Rattle.header_block.specs.declared.field_reader.TheConstants.{LONGEST}

@@ -1,4 +1,3 @@
-use Rattle.std.proofs.Common.{◌≡◌}
 use Rattle.header_block.specs.FieldView.{gathered_of}
 use Rattle.header_block.specs.Gathering.{Gathers, turns}
 use Rattle.header_block.proofs.field_reader.FieldReader.gather.Given as goal

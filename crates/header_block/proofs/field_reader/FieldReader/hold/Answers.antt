@@ -1,4 +1,4 @@
-use Rattle.std.proofs.Common.{rules, arith, ◌≡◌, ◌+◌, ◌-◌, ◌<◌, ◌∙◌, true, refl, sym, ap, ◌++◌, length, take, drop, length-take, length-drop, length-take-le}
+use Rattle.std.proofs.Common.{rules, arith, ◌≡◌, ◌-◌, ◌∙◌, true, refl, sym, ap, ◌++◌, length, take, drop, length-take, length-drop, length-take-le}
 use Rattle.std.specs.Result.{is_ok}
 use Rattle.std.proofs.lemmas.List.{drop-drop, take_rest}
 use Rattle.header_block.specs.Kept.{goes_with}

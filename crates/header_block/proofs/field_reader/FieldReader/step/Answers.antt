@@ -1,4 +1,4 @@
-use Rattle.std.proofs.Common.{arith, ◌≡◌, ◌<◌, length, take, drop, length-drop, length-take, length-take-le}
+use Rattle.std.proofs.Common.{arith, take, drop, length-drop, length-take, length-take-le}
 use Rattle.enc_io.specs.ReaderView as reader
 use Rattle.header_block.proofs.GatherLemmas.{step_whole}
 use Rattle.header_block.proofs.ViewLemmas.{no_lf_field}

@@ -1,11 +1,9 @@
-use Rattle.std.proofs.Common.{rules, arith, ◌≡◌, ◌+◌, ◌-◌, ◌<◌, ◌≤◌, ◌∙◌, Ok, true, false, eqb, List, ℕ, [], ◌∷◌, ◌++◌, refl, sym, ap, subst, length, take, drop, length-append, length-drop, length-take, length-take-le}
-use Rattle.std.proofs.lemmas.Bool.{eqb-true}
+use Rattle.std.proofs.Common.{rules, arith, ◌≡◌, ◌+◌, ◌-◌, ◌<◌, ◌≤◌, ◌∙◌, Ok, true, false, eqb, List, ℕ, [], ◌∷◌, ◌++◌, sym, ap, subst, length, take, drop, length-drop, length-take, length-take-le}
 use Rattle.std.proofs.lemmas.List.{drop-drop}
 use Rattle.enc_io.specs.ReaderView as reader
 use Rattle.header_block.specs.declared.field_reader.TheConstants.{LONGEST}
 use Rattle.header_block.specs.FieldView.{gathered_of}
 use Rattle.header_block.specs.Gathering.{Gathered, Gathers, Steps, turns}
-use Rattle.header_block.specs.Kept.{goes_with}
 use Rattle.header_block.specs.Lines.{has_lf, without_last_cr}
 use Rattle.header_block.proofs.LineLemmas.{has_lf-append}
 use Rattle.header_block.proofs.FieldLemmas.{goes_front, goes_some}
