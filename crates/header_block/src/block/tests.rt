@@ -52,7 +52,7 @@ fn is_last(error: &BlockError) -> bool {
 // a colon, a space and its text, of an error its words. An error for good is answered twice.
 fn answers(alloc: Global, block: &mut HeaderBlock<MemorySource>) -> Result<Vec<u8>, Fail> {
     let mut lines = Vec::new(alloc);
-    let mut last = 0;
+    let mut is_over = false;
     for _ in 0..50 {
         match block.next(alloc) {
             Ok(Some(field)) => {
@@ -65,15 +65,14 @@ fn answers(alloc: Global, block: &mut HeaderBlock<MemorySource>) -> Result<Vec<u
             Err(error) => {
                 let text = format!(in alloc; "{error}")?;
                 lines.extend_from_slice(text.as_bytes())?;
-                if is_last(&error) {
-                    last += 1;
+                if is_over {
+                    lines.push(b'\n')?;
+                    return Ok(lines);
                 }
+                is_over = is_last(&error);
             }
         }
         lines.push(b'\n')?;
-        if last == 2 {
-            return Ok(lines);
-        }
     }
     Ok(lines)
 }
@@ -241,11 +240,11 @@ fn each_read_fails_in_turn(rt: HostRuntime) -> Result<(), Fail> {
     Ok(())
 }
 
-// A field of so many bytes in lines of so many, and a line behind it.
-fn long_field(alloc: Global, len: usize, line: usize) -> Result<Vec<u8>, Fail> {
+// A field of so many bytes, folded or not, and one behind it.
+fn long_field(alloc: Global, len: usize, is_folded: bool) -> Result<Vec<u8>, Fail> {
     let mut bytes = Vec::from_slice(alloc, b"a:")?;
     for i in 2..len {
-        if i % line == 0 {
+        if is_folded && i % 60 == 0 {
             bytes.extend_from_slice(b"\r\n ")?;
         } else {
             bytes.push(b'x')?;
@@ -255,27 +254,32 @@ fn long_field(alloc: Global, len: usize, line: usize) -> Result<Vec<u8>, Fail> {
     Ok(bytes)
 }
 
+// Checks whether a block whose first field has so many bytes answers that it is too long.
+fn check_length(
+    rt: &impl process::Abort,
+    alloc: Global,
+    len: usize,
+    is_folded: bool,
+    is_too_long: bool,
+) -> Result<(), Fail> {
+    let tables = Tables::new();
+    let bytes = long_field(alloc, len, is_folded)?;
+    let strategy = RecoverStrategy::Abort;
+    let way = (1000, 8192, 4096);
+    let mut block = block_of(rt, alloc, &tables, bytes.as_slice(), way, 0, strategy)?;
+    let got = answers(alloc, &mut block)?;
+    let told = got
+        .as_slice()
+        .starts_with(b"field 0 is longer than 65536 bytes\n");
+    assert_eq!(rt; told, is_too_long, "{len} {is_folded}");
+    Ok(())
+}
+
 #[test]
 fn fields_are_too_long_from_65_537_bytes_on(rt: HostRuntime) -> Result<(), Fail> {
     let alloc = rt.alloc();
-    let tables = Tables::new();
-    for row in [
-        (65_536, 100_000),
-        (65_536, 60),
-        (65_537, 100_000),
-        (65_537, 60),
-    ] {
-        let (len, line) = row;
-        let bytes = long_field(alloc, len, line)?;
-        let way = (1000, 8192, 4096);
-        let strategy = RecoverStrategy::Abort;
-        let mut block = block_of(&rt, alloc, &tables, bytes.as_slice(), way, 0, strategy)?;
-        let got = block.next(alloc);
-        assert_eq!(rt; got.is_ok(), len == 65_536, "{len} {line}");
-        match got {
-            Ok(_) => {}
-            Err(error) => assert_eq!(rt; error, BlockError::TooLong(0)),
-        }
-    }
-    Ok(())
+    check_length(&rt, alloc, 65_536, false, false)?;
+    check_length(&rt, alloc, 65_536, true, false)?;
+    check_length(&rt, alloc, 65_537, false, true)?;
+    check_length(&rt, alloc, 65_537, true, true)
 }
