@@ -1,0 +1,7 @@
+pub mod BlockLemmas
+pub mod CallLemmas
+pub mod FieldLemmas
+pub mod GatherLemmas
+pub mod LineLemmas
+pub mod ReadLemmas
+pub mod ViewLemmas

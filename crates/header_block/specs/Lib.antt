@@ -1,0 +1,12 @@
+pub mod Block
+pub mod BlockCalls
+pub mod BlockView
+pub mod Calls
+pub mod FieldView
+pub mod Fields
+pub mod Gathering
+pub mod Kept
+pub mod Lines
+pub mod Parts
+pub mod Reads
+pub mod Showing
